@@ -1,0 +1,11 @@
+mod Rows
+mod Twos
+mod Words
+mod Formed
+mod Remade
+mod Groups
+mod Held
+mod Below32
+mod Fitting
+mod Refused
+mod Hex

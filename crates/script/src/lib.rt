@@ -1,0 +1,12 @@
+// The script language: a command a line, and what each command answers.
+mod commands;
+mod reading;
+
+pub use commands::Answer;
+pub use commands::AnswerDisplay;
+pub use commands::Command;
+pub use reading::Fault;
+pub use reading::FaultDisplay;
+pub use reading::Problem;
+pub use reading::ProblemDisplay;
+pub use reading::read;
