@@ -1,2 +1,2 @@
-pub mod Answers
 pub mod Numbers
+pub mod Sessions

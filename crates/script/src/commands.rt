@@ -1,34 +1,30 @@
-ghost use mathlib.Core.Path.{_≡_};
-ghost use Rattle.script.specs.Answers.{answered};
 use rv32i::Cause;
 use rv32i::CauseDisplay;
 use rv32i::Instruction;
 use rv32i::InstructionDisplay;
-use rv32i::decode;
-use rv32i::encode;
 use std::fmt;
 
 #[derive(Clone, Copy)]
 pub enum Command {
     Decode(u32),
     Encode(Instruction),
+    // A new memory of zeros over one buffer of this many bytes.
+    FlatMemory(u32),
+    // The same over four lanes of these lengths.
+    LanesMemory([u32; 4]),
+    Peek { address: u32, count: u32 },
+    Rights([u32; 8]),
+    Rings { domains: [u8; 8], gates: [u8; 32] },
+    May { domain: u32, gate: u32 },
 }
 
-#[derive(Clone, Copy)]
+// What a command answers, if it answers at all.
+#[derive(Drop)]
 pub enum Answer {
     Decoded(Result<Instruction, Cause>),
     Encoded(Option<u32>),
-}
-
-impl Command {
-    pub fn perform(self) -> Answer
-        ensures is { λ r. ⌜ r ≡ answered self ⌝ }
-    {
-        match self {
-            Command::Decode(word) => Answer::Decoded(decode(word)),
-            Command::Encode(instruction) => Answer::Encoded(encode(instruction)),
-        }
-    }
+    Peeked(Vec<Option<u8>>),
+    May(bool),
 }
 
 // The line that is printed.
@@ -39,6 +35,18 @@ pub impl fmt::Display for Answer as AnswerDisplay {
             Answer::Decoded(Err(cause)) => write!(f, "decode refused {cause}"),
             Answer::Encoded(Some(word)) => write!(f, "encode 0x{word:08x}"),
             Answer::Encoded(None) => f.write_str("encode refused"),
+            Answer::Peeked(bytes) => {
+                f.write_str("peek")?;
+                for byte in bytes.iter() {
+                    match byte {
+                        Some(value) => write!(f, " {value}")?,
+                        None => f.write_str(" none")?,
+                    }
+                }
+                Ok(())
+            }
+            Answer::May(true) => f.write_str("may yes"),
+            Answer::May(false) => f.write_str("may no"),
         }
     }
 }

@@ -1,6 +1,8 @@
 // The script language: a command a line, and what each command answers.
 mod commands;
+mod memories;
 mod reading;
+mod sessions;
 
 pub use commands::Answer;
 pub use commands::AnswerDisplay;
@@ -10,3 +12,4 @@ pub use reading::FaultDisplay;
 pub use reading::Problem;
 pub use reading::ProblemDisplay;
 pub use reading::read;
+pub use sessions::Session;

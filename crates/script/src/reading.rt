@@ -9,6 +9,7 @@ use std::alloc::AllocError;
 use std::alloc::Global;
 use std::alloc::Refused;
 use std::fmt;
+use std::str::SplitWhitespace;
 
 // What is wrong with a line.
 #[derive(Clone, Copy)]
@@ -80,11 +81,7 @@ fn read_row(heap: Global, row: &str, commands: &mut Vec<Command>) -> Result<(), 
     let Some(name) = words.next() else {
         return Ok(());
     };
-    let command = match name {
-        "decode" => Command::Decode(number(words.next())?),
-        "encode" => Command::Encode(instruction(heap, words.next(), words.next())?),
-        _ => return Err(Problem::Command),
-    };
+    let command = command_of(heap, name, &mut words)?;
     if words.next().is_some() {
         return Err(Problem::Words);
     }
@@ -92,6 +89,64 @@ fn read_row(heap: Global, row: &str, commands: &mut Vec<Command>) -> Result<(), 
         Ok(()) => Ok(()),
         Err(_) => Err(Problem::Memory),
     }
+}
+
+fn command_of(heap: Global, name: &str, words: &mut SplitWhitespace) -> Result<Command, Problem> {
+    match name {
+        "decode" => Ok(Command::Decode(number(words.next())?)),
+        "encode" => Ok(Command::Encode(instruction(heap, words.next(), words.next())?)),
+        "memory" => memory_of(words),
+        "peek" => Ok(Command::Peek {
+            address: number(words.next())?,
+            count: number(words.next())?,
+        }),
+        "rights" => {
+            let mut rows = [0; 8];
+            numbers(words, &mut rows)?;
+            Ok(Command::Rights(rows))
+        }
+        "rings" => {
+            let mut domains = [0; 8];
+            let mut gates = [0; 32];
+            rings(words, &mut domains)?;
+            rings(words, &mut gates)?;
+            Ok(Command::Rings { domains, gates })
+        }
+        "may" => Ok(Command::May {
+            domain: number(words.next())?,
+            gate: number(words.next())?,
+        }),
+        _ => Err(Problem::Command),
+    }
+}
+
+fn memory_of(words: &mut SplitWhitespace) -> Result<Command, Problem> {
+    match words.next() {
+        Some("flat") => Ok(Command::FlatMemory(number(words.next())?)),
+        Some("lanes") => {
+            let mut lengths = [0; 4];
+            numbers(words, &mut lengths)?;
+            Ok(Command::LanesMemory(lengths))
+        }
+        Some(_) => Err(Problem::Command),
+        None => Err(Problem::Words),
+    }
+}
+
+// As many numbers as there are places.
+fn numbers(words: &mut SplitWhitespace, all: &mut [u32]) -> Result<(), Problem> {
+    for one in all.iter_mut() {
+        *one = number(words.next())?;
+    }
+    Ok(())
+}
+
+// As many rings as there are places. Those above 3 count as 3.
+fn rings(words: &mut SplitWhitespace, all: &mut [u8]) -> Result<(), Problem> {
+    for one in all.iter_mut() {
+        *one = number(words.next())?.min(3) as u8;
+    }
+    Ok(())
 }
 
 fn number(word: Option<&str>) -> Result<u32, Problem> {

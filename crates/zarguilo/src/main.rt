@@ -1,6 +1,7 @@
 // The program: a script in, a line an answer out.
 use script::AnswerDisplay;
 use script::FaultDisplay;
+use script::Session;
 use std::env;
 use std::error::AnyError;
 use std::fs;
@@ -19,11 +20,15 @@ fn source(rt: &LibcRuntime) -> Result<String, AnyError> {
 }
 
 fn main(rt: LibcRuntime) -> Result<(), AnyError> {
+    let heap = rt.alloc();
     let text = source(&rt)?;
-    match script::read(rt.alloc(), text.as_str()) {
+    match script::read(heap, text.as_str()) {
         Ok(commands) => {
+            let mut session = Session::new(heap);
             for command in commands.iter() {
-                rt.println(command.perform())?;
+                if let Some(answer) = session.perform(heap, *command)? {
+                    rt.println(answer)?;
+                }
             }
             Ok(())
         }

@@ -1,0 +1,6 @@
+use Rattle.stores.specs.Layout.{woven}
+use Rattle.memory_example.proofs.lender.stamp_arrays.Needs as need
+
+pub returns : need.returns
+unfolding woven
+returns c = c .stamp-four .ensures

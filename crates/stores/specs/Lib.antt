@@ -1,0 +1,4 @@
+pub mod Layout
+pub mod Few
+pub mod Choice
+pub mod Lending
