@@ -4,14 +4,14 @@ ghost use mathlib.Core.List.{_++_};
 ghost use lib.ListN.{drop, replicate};
 ghost use denote.Ref.{name};
 ghost use Rattle.std.specs.Of.Vec.{vec-items};
-ghost use Rattle.stores.specs.Layout.{counted, uncounted, depth, woven, column};
-ghost use Rattle.stores.specs.Lending.{lanes-bytes, Lanes-lender as Lender};
+ghost use Rattle.memories.specs.Layout.{counted, uncounted, depth, woven, column};
+ghost use Rattle.memories.specs.Lending.{lanes-bytes, Lanes-lender as Lender};
 ghost use Rattle.memory_example.specs.Stamp.{stamped};
+use memories::flat::Flat;
+use memories::flat::FlatMemory;
+use memories::lanes::Lanes;
+use memories::lanes::LanesMemory;
 use memory::Memory;
-use stores::flat::Flat;
-use stores::flat::FlatMemory;
-use stores::lanes::Lanes;
-use stores::lanes::LanesMemory;
 
 // Some work on any memory. It says what becomes of the bytes, and that what was lent stays lent.
 pub fn stamp<M: Memory>(memory: &mut M, address: u32)

@@ -1,23 +1,23 @@
 // Tables of cases for the memories and the policies.
 #[cfg(test)]
 mod tests {
+    use memories::any::AnyMemory;
+    use memories::any::ChosenMemory;
+    use memories::flat::Flat;
+    use memories::flat::FlatMemory;
+    use memories::lanes::Lanes;
+    use memories::lanes::LanesMemory;
     use memory::Memory;
     use memory_example::pages::Pages;
     use memory_example::pages::PagesMemory;
     use policy::Policy;
+    use policy::any::AnyPolicy;
+    use policy::any::ChosenPolicy;
     use policy::rights::Rights;
     use policy::rights::RightsPolicy;
     use policy::rings::Rings;
     use policy::rings::RingsPolicy;
-    use policy::rule::Rule;
-    use policy::rule::RulePolicy;
     use std::test::*;
-    use stores::flat::Flat;
-    use stores::flat::FlatMemory;
-    use stores::lanes::Lanes;
-    use stores::lanes::LanesMemory;
-    use stores::store::Store;
-    use stores::store::StoreMemory;
 
     struct Read {
         address: u32,
@@ -138,7 +138,7 @@ mod tests {
     #[test]
     fn store() -> Result<(), Fail> {
         let mut buffer = [1, 2, 3, 4, 5, 6, 7, 8];
-        let mut memory = Store::Flat(Flat::new(&mut buffer));
+        let mut memory = AnyMemory::Flat(Flat::new(&mut buffer));
         reads(&memory)?;
         writes(&mut memory)?;
         reads(&memory)
@@ -251,7 +251,7 @@ mod tests {
             domains: [0, 1, 2, 3, 4, 5, 6, 255],
             gates,
         };
-        let rule = Rule::Rings(rings);
+        let rule = AnyPolicy::Rings(rings);
         for asked in &ASKED {
             check_eq(rights.allows(asked.domain, asked.gate), asked.rights)?;
             check_eq(rings.allows(asked.domain, asked.gate), asked.rings)?;

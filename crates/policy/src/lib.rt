@@ -3,9 +3,9 @@ ghost use mathlib.Core.Path.{_≡_};
 ghost use mathlib.Core.Bool.{Bool};
 ghost use Prim.Native.Nat.{ℕ};
 
+pub mod any;
 pub mod rights;
 pub mod rings;
-pub mod rule;
 
 pub trait Policy {
     // A yes or no for each calling domain and each gate. Asking does not change the policy, so asked twice it answers alike.

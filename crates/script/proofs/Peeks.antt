@@ -11,7 +11,7 @@ use Rattle.std.proofs.shelf.Ways.{tells}
 use Rattle.std.specs.declared.option.Option.{Option}
 use Rattle.std.specs.declared.option.Option.the-variants.{None}
 use Rattle.memory.specs.Bytes.{byte-at}
-use Rattle.script.specs.Sessions.{peeked}
+use Rattle.script.specs.States.{peeked}
 
 past : (a n : ℕ) → n ≤ a → ltb a n ≡ false
 past a n h = grind (arith, tells)

@@ -1,2 +1,4 @@
 pub mod Numbers
-pub mod Sessions
+pub mod States
+pub mod Answers
+pub mod Words

@@ -1,10 +1,12 @@
+use refusal::Refusal;
+use refusal::RefusalDisplay;
 use rv32i::Cause;
 use rv32i::CauseDisplay;
 use rv32i::Instruction;
 use rv32i::InstructionDisplay;
 use std::fmt;
 
-#[derive(Clone, Copy)]
+#[derive(Drop)]
 pub enum Command {
     Decode(u32),
     Encode(Instruction),
@@ -16,6 +18,11 @@ pub enum Command {
     Rights([u32; 8]),
     Rings { domains: [u8; 8], gates: [u8; 32] },
     May { domain: u32, gate: u32 },
+    // Words that are appended to the code store.
+    Code(Vec<u32>),
+    // The same from a file, which has to be read before the script is run.
+    CodeFile(String),
+    Check { base: u32, m: u32 },
 }
 
 // What a command answers, if it answers at all.
@@ -25,6 +32,7 @@ pub enum Answer {
     Encoded(Option<u32>),
     Peeked(Vec<Option<u8>>),
     May(bool),
+    Checked(Result<(), Refusal>),
 }
 
 // The line that is printed.
@@ -47,6 +55,8 @@ pub impl fmt::Display for Answer as AnswerDisplay {
             }
             Answer::May(true) => f.write_str("may yes"),
             Answer::May(false) => f.write_str("may no"),
+            Answer::Checked(Ok(())) => f.write_str("check accepted"),
+            Answer::Checked(Err(refusal)) => write!(f, "check refused {refusal}"),
         }
     }
 }

@@ -3,15 +3,15 @@ ghost use mathlib.Core.Path.{_≡_};
 ghost use Rattle.std.specs.Of.Vec.{vec-items};
 ghost use Rattle.std.specs.Vec.{made};
 ghost use lib.ListN.{getD};
-ghost use Rattle.stores.specs.Layout.{counted, woven};
-ghost use Rattle.script.specs.Sessions.{bytesOf, zeros, peeked};
+ghost use Rattle.memories.specs.Layout.{counted, woven};
+ghost use Rattle.script.specs.States.{bytesOf, zeros, peeked};
+use memories::flat::Flat;
+use memories::flat::FlatMemory;
+use memories::lanes::Lanes;
+use memories::lanes::LanesMemory;
 use memory::Memory;
 use std::alloc::AllocError;
 use std::alloc::Global;
-use stores::flat::Flat;
-use stores::flat::FlatMemory;
-use stores::lanes::Lanes;
-use stores::lanes::LanesMemory;
 
 #[derive(Drop)]
 pub enum Buffers {

@@ -18,6 +18,8 @@ pub enum Problem {
     Words,
     Number,
     Instruction,
+    File,
+    Length,
     // Nothing is wrong with the line: there was no memory for it.
     Memory,
 }
@@ -30,6 +32,8 @@ pub impl fmt::Display for Problem as ProblemDisplay {
                 Problem::Words => "the command has another number of words",
                 Problem::Number => "this is no number of at most 32 bits",
                 Problem::Instruction => "this is the text of no instruction",
+                Problem::File => "the file cannot be read",
+                Problem::Length => "the file has no whole number of words",
                 Problem::Memory => "out of memory",
             },
         )
@@ -38,6 +42,12 @@ pub impl fmt::Display for Problem as ProblemDisplay {
 
 impl From<AllocError> for Problem as AllocProblem {
     fn from(_e: AllocError) -> Problem {
+        Problem::Memory
+    }
+}
+
+impl<T: Drop> From<Refused<T>> for Problem as RefusedProblem {
+    fn from(_e: Refused<T>) -> Problem {
         Problem::Memory
     }
 }
@@ -57,22 +67,30 @@ pub impl fmt::Display for Fault as FaultDisplay {
     }
 }
 
+// A command, with the number of its line, counted from 1.
+#[derive(Drop)]
+pub struct Line {
+    pub number: usize,
+    pub command: Command,
+}
+
 // The commands of a script, or its first line with a fault. `#` begins a comment, and a line with no
 // word is passed over.
-pub fn read(heap: Global, text: &str) -> Result<Vec<Command>, Fault> {
-    let mut commands = Vec::new(heap);
+pub fn read(heap: Global, text: &str) -> Result<Vec<Line>, Fault> {
+    let mut lines = Vec::new(heap);
     for (index, row) in text.lines().enumerate() {
-        if let Err(problem) = read_row(heap, row, &mut commands) {
+        let number = index.saturating_add(1);
+        if let Err(problem) = read_row(heap, row, number, &mut lines) {
             return Err(Fault {
-                line: index.saturating_add(1),
+                line: number,
                 problem,
             });
         }
     }
-    Ok(commands)
+    Ok(lines)
 }
 
-fn read_row(heap: Global, row: &str, commands: &mut Vec<Command>) -> Result<(), Problem> {
+fn read_row(heap: Global, row: &str, number: usize, lines: &mut Vec<Line>) -> Result<(), Problem> {
     let code = match row.split_once('#') {
         Some((code, _comment)) => code,
         None => row,
@@ -85,10 +103,8 @@ fn read_row(heap: Global, row: &str, commands: &mut Vec<Command>) -> Result<(), 
     if words.next().is_some() {
         return Err(Problem::Words);
     }
-    match commands.push(command) {
-        Ok(()) => Ok(()),
-        Err(_) => Err(Problem::Memory),
-    }
+    lines.push(Line { number, command })?;
+    Ok(())
 }
 
 fn command_of(heap: Global, name: &str, words: &mut SplitWhitespace) -> Result<Command, Problem> {
@@ -116,8 +132,29 @@ fn command_of(heap: Global, name: &str, words: &mut SplitWhitespace) -> Result<C
             domain: number(words.next())?,
             gate: number(words.next())?,
         }),
+        "code" => Ok(Command::Code(code_of(heap, words)?)),
+        "code-file" => match words.next() {
+            Some(path) => Ok(Command::CodeFile(String::from_str(heap, path)?)),
+            None => Err(Problem::Words),
+        },
+        "check" => Ok(Command::Check {
+            base: number(words.next())?,
+            m: number(words.next())?,
+        }),
         _ => Err(Problem::Command),
     }
+}
+
+// All the words of the line that are left, of which there is at least one.
+fn code_of(heap: Global, words: &mut SplitWhitespace) -> Result<Vec<u32>, Problem> {
+    let mut code = Vec::new(heap);
+    let mut word = number(words.next())?;
+    for next in words {
+        code.push(word)?;
+        word = number(Some(next))?;
+    }
+    code.push(word)?;
+    Ok(code)
 }
 
 fn memory_of(words: &mut SplitWhitespace) -> Result<Command, Problem> {

@@ -1,17 +1,17 @@
-// What a script has built up so far: a memory and a policy.
+// What a script has built up so far: a memory, a policy and a code store.
 ghost use mathlib.Core.Path.{_≡_};
-ghost use mathlib.Core.List.{[]};
 ghost use Rattle.std.specs.Vec.{made, refused};
-ghost use Rattle.stores.specs.Layout.{counted};
-ghost use Rattle.script.specs.Sessions.{bytesOf, noRights, bytesAfter, policyAfter, Answers};
+ghost use Rattle.script.specs.States.{view, start, after};
+ghost use Rattle.script.specs.Answers.{Answers};
 use crate::commands::Answer;
 use crate::commands::Command;
 use crate::memories::Buffers;
+use check::check;
 use policy::Policy;
+use policy::any::AnyPolicy;
+use policy::any::ChosenPolicy;
 use policy::rights::Rights;
 use policy::rings::Rings;
-use policy::rule::Rule;
-use policy::rule::RulePolicy;
 use rv32i::decode;
 use rv32i::encode;
 use std::alloc::AllocError;
@@ -20,27 +20,27 @@ use std::alloc::Global;
 #[derive(Drop)]
 pub struct Session {
     memory: Buffers,
-    policy: Rule,
+    policy: AnyPolicy,
+    code: Vec<u32>,
 }
 
 impl Session {
-    // A memory of no byte, and a policy that allows nothing.
+    // A memory of no byte, a policy that allows nothing, and no code.
     pub fn new(heap: Global) -> Session
-        ensures bytes { λ r. ⌜ bytesOf (r .memory) ≡ counted [] ⌝ }
-        ensures policy { λ r. ⌜ r .policy ≡ noRights ⌝ }
+        ensures is { λ r. ⌜ view r ≡ start ⌝ }
     {
         Session {
             memory: Buffers::Flat(Vec::new(heap)),
-            policy: Rule::Rights(Rights { rows: [0; 8] }),
+            policy: AnyPolicy::Rights(Rights { rows: [0; 8] }),
+            code: Vec::new(heap),
         }
     }
 
     // Where there is no memory for it, a command changes nothing.
     pub fn perform(&mut self, heap: Global, command: Command) -> Result<Option<Answer>, AllocError>
-        ensures is { λ r. ⌜ made r (λ a. Answers command (bytesOf (now (self .entry) .memory)) (now (self .entry) .policy) a) ⌝ }
-        ensures bytes { λ r. ⌜ made r (λ _. bytesOf (now (self .exit) .memory) ≡ bytesAfter command (bytesOf (now (self .entry) .memory))) ⌝ }
-        ensures policy { λ r. ⌜ made r (λ _. now (self .exit) .policy ≡ policyAfter command (now (self .entry) .policy)) ⌝ }
-        ensures kept { λ r. ⌜ refused r (λ _. (bytesOf (now (self .exit) .memory) ≡ bytesOf (now (self .entry) .memory)) × (now (self .exit) .policy ≡ now (self .entry) .policy)) ⌝ }
+        ensures is { λ r. ⌜ made r (λ a. Answers command (view (now (self .entry))) a) ⌝ }
+        ensures state { λ r. ⌜ made r (λ _. view (now (self .exit)) ≡ after command (view (now (self .entry)))) ⌝ }
+        ensures kept { λ r. ⌜ refused r (λ _. view (now (self .exit)) ≡ view (now (self .entry))) ⌝ }
     {
         match command {
             Command::Decode(word) => Ok(Some(Answer::Decoded(decode(word)))),
@@ -57,15 +57,24 @@ impl Session {
                 Ok(Some(Answer::Peeked(self.memory.peek(heap, address, count)?)))
             }
             Command::Rights(rows) => {
-                self.policy = Rule::Rights(Rights { rows });
+                self.policy = AnyPolicy::Rights(Rights { rows });
                 Ok(None)
             }
             Command::Rings { domains, gates } => {
-                self.policy = Rule::Rings(Rings { domains, gates });
+                self.policy = AnyPolicy::Rings(Rings { domains, gates });
                 Ok(None)
             }
             Command::May { domain, gate } => {
                 Ok(Some(Answer::May(self.policy.allows(domain as usize, gate))))
+            }
+            Command::Code(words) => {
+                self.code.extend_from_slice(words.as_slice())?;
+                Ok(None)
+            }
+            // Its words have not been read, so there are none to append.
+            Command::CodeFile(_path) => Ok(None),
+            Command::Check { base, m } => {
+                Ok(Some(Answer::Checked(check(self.code.as_slice(), base, m))))
             }
         }
     }

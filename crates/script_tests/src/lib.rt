@@ -37,7 +37,17 @@ mod tests {
         expect(heap, "decode", words)?;
         expect(heap, "decode 0 1", words)?;
         expect(heap, "encode", words)?;
-        expect(heap, "encode addi x1,x0,-1 x2", words)
+        expect(heap, "encode addi x1,x0,-1 x2", words)?;
+        expect(heap, "memory", words)?;
+        expect(heap, "memory lanes 1 2 3", words)?;
+        expect(heap, "memory lanes 1 2 3 4 5", words)?;
+        expect(heap, "\nmemory round 4", command)?;
+        expect(heap, "rights 1 2 3 4 5 6 7", words)?;
+        expect(heap, "rings 1 2 3 4 5 6 7 8", words)?;
+        expect(heap, "may 1", words)?;
+        expect(heap, "code", words)?;
+        expect(heap, "code-file", words)?;
+        expect(heap, "check 0", words)
     }
 
     #[test]
@@ -51,7 +61,9 @@ mod tests {
         expect(heap, "decode ff", number)?;
         expect(heap, "decode -1", number)?;
         expect(heap, "decode +1", number)?;
-        expect(heap, "decode 0x+1", number)
+        expect(heap, "decode 0x+1", number)?;
+        expect(heap, "code 1 2 x", number)?;
+        expect(heap, "peek 0 -1", number)
     }
 
     #[test]

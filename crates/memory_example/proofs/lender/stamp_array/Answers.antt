@@ -1,6 +1,6 @@
 use mathlib.Core.Path.{_∙_}
 use mathlib.Core.List.{append-nil}
-use Rattle.stores.specs.Layout.{counted, uncounted}
+use Rattle.memories.specs.Layout.{counted, uncounted}
 use Rattle.memory_example.proofs.lender.stamp_array.Needs as need
 
 pub returns : need.returns

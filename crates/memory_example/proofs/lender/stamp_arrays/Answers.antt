@@ -1,4 +1,4 @@
-use Rattle.stores.specs.Layout.{woven}
+use Rattle.memories.specs.Layout.{woven}
 use Rattle.memory_example.proofs.lender.stamp_arrays.Needs as need
 
 pub returns : need.returns

@@ -1,4 +1,4 @@
-use Rattle.stores.proofs.Lending.{flat-lender}
+use Rattle.memories.proofs.Lending.{flat-lender}
 use Rattle.memory_example.proofs.lender.stamp_flat.Needs as need
 
 pub returns : need.returns

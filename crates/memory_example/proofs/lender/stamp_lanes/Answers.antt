@@ -1,4 +1,4 @@
-use Rattle.stores.proofs.Lending.{lanes-lender}
+use Rattle.memories.proofs.Lending.{lanes-lender}
 use Rattle.memory_example.proofs.lender.stamp_lanes.Needs as need
 
 pub returns : need.returns

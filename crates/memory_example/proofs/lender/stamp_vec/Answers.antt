@@ -2,7 +2,7 @@ use mathlib.Core.Path.{ap, _∙_}
 use mathlib.Core.List.{_++_}
 use native.Mathlib.Omega.{arith}
 use Rattle.std.proofs.shelf.Lists.{refilled-is}
-use Rattle.stores.specs.Layout.{counted, uncounted}
+use Rattle.memories.specs.Layout.{counted, uncounted}
 use Rattle.memory_example.specs.Stamp.{stamped}
 use Rattle.memory_example.proofs.lender.stamp_vec.Needs as need
 

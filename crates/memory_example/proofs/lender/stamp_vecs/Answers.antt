@@ -3,7 +3,7 @@ use mathlib.Core.List.{_++_}
 use native.Mathlib.Omega.{arith}
 use lib.ListN.{drop}
 use Rattle.std.proofs.shelf.Lists.{refilled-is}
-use Rattle.stores.specs.Layout.{depth, woven, column}
+use Rattle.memories.specs.Layout.{depth, woven, column}
 use Rattle.memory_example.specs.Stamp.{stamped}
 use Rattle.memory_example.proofs.lender.stamp_vecs.Needs as need
 

@@ -5,8 +5,8 @@ use native.Mathlib.Omega.{arith}
 use Rattle.std.proofs.shelf.Lists.{refilled-is}
 use Rattle.std.specs.Of.Vec.{vec-items}
 use Rattle.std.specs.Vec.{made}
-use Rattle.stores.specs.Layout.{counted}
-use Rattle.script.specs.Sessions.{peeked}
+use Rattle.memories.specs.Layout.{counted}
+use Rattle.script.specs.States.{peeked}
 use Rattle.script.proofs.memories.peek_vec.Needs as need
 
 pub returns : need.returns

@@ -1,0 +1,5 @@
+pub mod Scan
+pub mod Framing
+pub mod Lawfully
+pub mod Meanings
+mod Worked

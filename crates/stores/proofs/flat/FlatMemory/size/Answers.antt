@@ -1,6 +1,0 @@
-use mathlib.Core.Path.{_∙_}
-use Rattle.stores.proofs.Cuts.{counted-length}
-use Rattle.stores.proofs.flat.FlatMemory.size.Needs as need
-
-pub returns : need.returns
-returns c = record { is = c .counted .ensures .is ∙ counted-length (c .args .self .now .buffer .now) }

@@ -1,4 +1,0 @@
-// The memories that are built: one lent buffer, four lent lanes, and a choice of the two.
-pub mod flat;
-pub mod lanes;
-pub mod store;
