@@ -4,7 +4,7 @@ mod Words
 mod Formed
 mod Remade
 mod Groups
-mod Held
+pub mod Held
 mod Below32
 mod Fitting
 mod Refused

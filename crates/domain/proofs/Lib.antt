@@ -1,0 +1,5 @@
+mod Writes
+mod Places
+mod Shorts
+mod Starts
+mod Steps

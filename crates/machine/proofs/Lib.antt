@@ -1,0 +1,2 @@
+mod Past
+mod Multiples
