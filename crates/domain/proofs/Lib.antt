@@ -1,5 +1,5 @@
-mod Writes
-mod Places
-mod Shorts
-mod Starts
-mod Steps
+pub mod Writes
+pub mod Places
+pub mod Shorts
+pub mod Starts
+pub mod Steps
