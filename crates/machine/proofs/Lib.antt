@@ -1,2 +1,2 @@
 mod Past
-mod Multiples
+pub mod Multiples
