@@ -1,4 +1,6 @@
 // Instructions read back from their text.
+#![tactic(auto)]
+
 ghost use Rattle.std.specs.Prelude.{◌≡◌, IfSome, IfOk};
 ghost use Rattle.rv32i.specs.Text.{text_of};
 

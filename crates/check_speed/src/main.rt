@@ -1,5 +1,7 @@
 // How fast the check is: with a number of rounds as its argument, words per second on a full window; without, the verdict alone.
-use check::check;
+#![tactic(auto)]
+
+use code_check::check;
 use std::time::Instant;
 use std::{env, io};
 

@@ -1,4 +1,6 @@
 // Windows that attack, and where each is refused.
+#![tactic(auto)]
+
 #[cfg(test)]
 mod attacks;
 #[cfg(test)]

@@ -1,4 +1,4 @@
-use check::check;
+use code_check::check;
 use refusal::Values;
 
 // Code that stores a byte, goes through its code pointer and back to the start, in a window of 64 bytes.

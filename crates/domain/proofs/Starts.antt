@@ -3,8 +3,8 @@ use Rattle.std.proofs.Common.{◌≡◌, ℕ, ◌+◌, ◌-◌, ◌%◌, ◌^◌
 use Rattle.std.proofs.lemmas.Nat.{pow_pos}
 use Rattle.std.proofs.lemmas.Bool.Decides.{nat_tests}
 use Rattle.segment.specs.Guards.{Row, Inside}
-use Rattle.check.specs.Verdicts.{and_then}
-use Rattle.check.specs.Windows.{bits_fit, code_mask_of}
+use Rattle.code_check.specs.Verdicts.{and_then}
+use Rattle.code_check.specs.Windows.{bits_fit, code_mask_of}
 use Rattle.domain.specs.Confined.{Domain, Admitted, InCode, Pointing, Held, Confined, with_dedicated, started, Starts}
 use Rattle.domain.proofs.Places.{quad}
 

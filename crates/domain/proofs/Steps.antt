@@ -14,12 +14,12 @@ use Rattle.refusal.specs.declared.rules.Rule.{Rule}
 use Rattle.refusal.specs.declared.rules.Rule.TheVariants.{Decodes, StoreBase, JumpBase, Dedicated, Paired, Target, Ending}
 use Rattle.segment.specs.Guards.{Row, Inside, Near, end}
 use Rattle.segment.proofs.Blocks.{or-base, or-quad, and-quad, power-quad}
-use Rattle.check.specs.declared.pointers.Pointer.{Pointer}
-use Rattle.check.specs.declared.pointers.Pointer.TheVariants.{Data, Code}
-use Rattle.check.specs.Registers.{register, mask, base, dedicated}
-use Rattle.check.specs.Aspects.{leaves, written as writes}
-use Rattle.check.specs.Rules.{word_at}
-use Rattle.check.specs.Laws.{Keeps, MaskWord, BaseWord}
+use Rattle.code_check.specs.declared.pointers.Pointer.{Pointer}
+use Rattle.code_check.specs.declared.pointers.Pointer.TheVariants.{Data, Code}
+use Rattle.code_check.specs.Registers.{register, mask, base, dedicated}
+use Rattle.code_check.specs.Aspects.{leaves, written as writes}
+use Rattle.code_check.specs.Rules.{word_at}
+use Rattle.code_check.specs.Laws.{Keeps, MaskWord, BaseWord}
 use Rattle.machine.specs.declared.effects.Effect.{Effect}
 use Rattle.machine.specs.declared.effects.Effect.TheVariants as effect
 use Rattle.machine.specs.declared.stops.Stop.TheVariants as stop

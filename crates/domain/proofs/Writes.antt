@@ -2,7 +2,7 @@
 use Rattle.std.proofs.Common.{◌≡◌, ℕ, ◌<◌, ◌≤◌, false, eqb, ◌≢◌, List, length, get_or, set, refl, arith, length-set, get_or-set_other, get_or-set_same}
 use Rattle.std.proofs.lemmas.Bool.{cond_both}
 use Rattle.std.proofs.lemmas.Bool.Decides.{nat_tests}
-use Rattle.check.specs.Registers.{dedicated}
+use Rattle.code_check.specs.Registers.{dedicated}
 use Rattle.machine.specs.Registers.{written}
 
 pub written-length : (xs : List ℕ) (rd v : ℕ) → length (written xs rd v) ≡ length xs

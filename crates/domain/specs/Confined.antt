@@ -13,13 +13,13 @@ use Rattle.std.specs.Prelude.{◌≡◌, ℕ, ◌+◌, ◌-◌, ◌*◌, ◌/◌
 use Rattle.rv32i.specs.declared.instructions.Instruction.{Instruction}
 use Rattle.refusal.specs.declared.rules.Rule.{Rule}
 use Rattle.segment.specs.Guards.{Row, Sound, Inside, Near}
-use Rattle.check.specs.declared.pointers.Pointer.{Pointer}
-use Rattle.check.specs.declared.pointers.Pointer.TheVariants.{Data, Code}
-use Rattle.check.specs.Registers.{dedicated}
-use Rattle.check.specs.Rules.{word_at}
-use Rattle.check.specs.Verdicts.{and_then}
-use Rattle.check.specs.Windows.{code_mask_of}
-use Rattle.check.specs.Laws.{Keeps, BaseWord}
+use Rattle.code_check.specs.declared.pointers.Pointer.{Pointer}
+use Rattle.code_check.specs.declared.pointers.Pointer.TheVariants.{Data, Code}
+use Rattle.code_check.specs.Registers.{dedicated}
+use Rattle.code_check.specs.Rules.{word_at}
+use Rattle.code_check.specs.Verdicts.{and_then}
+use Rattle.code_check.specs.Windows.{code_mask_of}
+use Rattle.code_check.specs.Laws.{Keeps, BaseWord}
 use Rattle.machine.specs.declared.effects.Effect.{Effect}
 use Rattle.machine.specs.declared.effects.Effect.TheVariants as effect
 use Rattle.machine.specs.declared.stops.Stop.{Stop}

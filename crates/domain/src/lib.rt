@@ -1,10 +1,12 @@
 // What holds of a domain between two words: it stays in its window, and stores near its segment alone.
+#![tactic(auto)]
+
 ghost use Rattle.std.specs.Prelude.{◌≡◌};
 ghost use Rattle.refusal.specs.Told.{told_in};
 ghost use Rattle.segment.specs.Rows.{row};
 ghost use Rattle.domain.specs.Confined.{started, Starts, Enters, Confines};
 
-use check::{Pointer, code_mask};
+use code_check::{Pointer, code_mask};
 use refusal::Refusal;
 use segment::Segment;
 

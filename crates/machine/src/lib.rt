@@ -1,4 +1,6 @@
 // What each instruction does: registers and pc in, its effect out.
+#![tactic(auto)]
+
 mod accesses;
 mod arithmetic;
 mod branches;

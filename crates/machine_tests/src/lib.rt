@@ -1,4 +1,6 @@
 // Edge cases of the instructions, their answers computed apart from the crate.
+#![tactic(auto)]
+
 #[cfg(test)]
 mod accesses;
 #[cfg(test)]

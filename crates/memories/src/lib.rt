@@ -1,4 +1,6 @@
 // The memories that are built: one lent buffer, four lent lanes, and a choice of the two.
+#![tactic(auto)]
+
 pub mod any;
 pub mod flat;
 pub mod lanes;

@@ -1,4 +1,6 @@
 // What a memory is to everything above it: a size below 2^32 that never changes, and that many bytes.
+#![tactic(auto)]
+
 ghost use Rattle.std.specs.Prelude.{◌≡◌, ℕ, ◌+◌, ◌^◌, ◌<◌, List, length, nat_lt};
 ghost use Rattle.memory.specs.Bytes.{byte_at, half_at, word_at, byte_put, half_put, word_put};
 ghost use Rattle.memory.specs.Loans.{Loan};

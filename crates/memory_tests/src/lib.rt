@@ -1,4 +1,6 @@
 // Tables of cases for the memories and the policies.
+#![tactic(auto)]
+
 #[cfg(test)]
 mod tests {
     use memories::any::AnyMemory;

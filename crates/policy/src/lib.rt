@@ -1,4 +1,6 @@
 // Which domain may call which gate.
+#![tactic(auto)]
+
 ghost use Rattle.std.specs.Prelude.{◌≡◌, Bool, ℕ};
 
 pub mod any;

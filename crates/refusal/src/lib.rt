@@ -1,4 +1,6 @@
 // Every way in which a call is turned down, and the numbers that tell it.
+#![tactic(auto)]
+
 mod printing;
 mod refusals;
 mod rules;

@@ -1,4 +1,6 @@
 // RV32I 2.1: instructions, the words that hold them, and their text.
+#![tactic(auto)]
+
 mod causes;
 mod decoding;
 mod encoding;

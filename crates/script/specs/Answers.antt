@@ -7,7 +7,7 @@ use Rattle.rv32i.specs.Decoded.{decoded}
 use Rattle.rv32i.specs.Encoded.{encoded}
 use Rattle.refusal.specs.Told.{told_in}
 use Rattle.policy.specs.Choice.{any_allows}
-use Rattle.check.specs.Verdicts.{Verdict, checked}
+use Rattle.code_check.specs.Verdicts.{Verdict, checked}
 use Rattle.script.specs.declared.commands.Command.{Command}
 use Rattle.script.specs.declared.commands.Command.TheVariants as cmd
 use Rattle.script.specs.declared.commands.Answer.{Answer}

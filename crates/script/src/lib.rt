@@ -1,4 +1,6 @@
 // The script language: a command a line, and what each command answers.
+#![tactic(auto)]
+
 mod code;
 mod commands;
 mod memories;

@@ -5,7 +5,7 @@ ghost use Rattle.script.specs.Answers.{Answers};
 
 use crate::commands::{Answer, Command};
 use crate::memories::Buffers;
-use check::check;
+use code_check::check;
 use policy::Policy;
 use policy::any::AnyPolicy;
 use policy::rights::Rights;

@@ -12,7 +12,7 @@ use Rattle.memories.specs.Layout.{counted, woven}
 use Rattle.policy.specs.declared.any.AnyPolicy.{AnyPolicy}
 use Rattle.policy.specs.declared.any.AnyPolicy.TheVariants.{Rights, Rings}
 use Rattle.policy.specs.Choice.{any_allows}
-use Rattle.check.specs.Verdicts.{checked}
+use Rattle.code_check.specs.Verdicts.{checked}
 use Rattle.yard_steps.specs.Model.{Yard, new_yard}
 use Rattle.yard_steps.specs.Calls.{Running, admitted, opened, called_from, running, replied, cut_off, register_of}
 use Rattle.yard_script.specs.declared.commands.Command.{Command}

@@ -1,4 +1,6 @@
 // What a script's commands do, and what they answer.
+#![tactic(auto)]
+
 mod answers;
 mod memories;
 mod performing;

@@ -1,7 +1,7 @@
 -- What holds of a yard holds after a step.
 use Rattle.std.proofs.Common.{◌≡◌, ℕ, zero, suc, ◌+◌, ◌<◌, Bool, true, false, cond, eqb, ltb, ◌⊎◌, List, [], ◌∷◌, length, get_or, set, Some, None, Option, sym, refl, ap, ◌∙◌, subst, inl, inr, ⊎_elim, arith, length-set, get_or-set_other, get_or-set_same}
 use Rattle.std.proofs.lemmas.Bool.{cond_both}
-use Rattle.check.specs.Windows.{words_from}
+use Rattle.code_check.specs.Windows.{words_from}
 use Rattle.machine.specs.declared.stops.Stop.{Stop}
 use Rattle.machine.specs.declared.stops.Stop.TheVariants.{Unmapped, NoGate, Forbidden, Busy}
 use Rattle.machine.specs.declared.effects.Effect.{Effect}

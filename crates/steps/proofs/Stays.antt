@@ -6,8 +6,8 @@ use Rattle.rv32i.specs.declared.instructions.Instruction.{Instruction}
 use Rattle.rv32i.specs.Decoded.{decoded}
 use Rattle.segment.specs.Guards.{Row, Inside, Near, apart, Guards}
 use Rattle.segment.proofs.Bounds.{whole}
-use Rattle.check.specs.Rules.{word_at}
-use Rattle.check.specs.Windows.{counted}
+use Rattle.code_check.specs.Rules.{word_at}
+use Rattle.code_check.specs.Windows.{counted}
 use Rattle.machine.specs.declared.widths.Datum.{Datum}
 use Rattle.machine.specs.declared.widths.Datum.TheVariants.{U8, U16, U32}
 use Rattle.machine.specs.declared.effects.Effect.{Effect}

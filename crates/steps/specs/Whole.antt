@@ -7,7 +7,7 @@
 --                    their windows
 use Rattle.std.specs.Prelude.{◌≡◌, ℕ, ◌<◌, ◌≤◌, true, List, length, Some, ◌≢◌, slice_index}
 use Rattle.segment.specs.Guards.{apart, end}
-use Rattle.check.specs.Windows.{words_from, Framed}
+use Rattle.code_check.specs.Windows.{words_from, Framed}
 use Rattle.domain.specs.Confined.{Domain as Placed, Admitted, InCode, Pointing, Confined}
 use Rattle.steps.specs.declared.states.State.TheVariants.{Idle}
 use Rattle.steps.specs.Model.{Domain, Entry, Yard, at, gate_at}

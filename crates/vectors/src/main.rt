@@ -1,5 +1,7 @@
 // Words with the text that GNU binutils gives them: each is decoded and its text compared, and the
 // text is read back, encoded and compared with the word.
+#![tactic(auto)]
+
 use rv32i::{decode, encode};
 use std::alloc::{AllocError, Global};
 use std::fs;

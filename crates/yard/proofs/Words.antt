@@ -7,7 +7,7 @@ use Rattle.rv32i.specs.declared.causes.Cause.{Cause}
 use Rattle.rv32i.specs.declared.instructions.Instruction.{Instruction}
 use Rattle.rv32i.specs.Decoded.{Decoding, decoded}
 use Rattle.machine.specs.declared.stops.Stop.TheVariants.{Fetch, Illegal}
-use Rattle.check.specs.Windows.{counted}
+use Rattle.code_check.specs.Windows.{counted}
 use Rattle.yard_steps.specs.Steps.{found, fetched}
 
 module _ (ws : List ℕ) (cells : List Decoding) (is : cells ≡ map decoded (take (counted ws) ws)) where

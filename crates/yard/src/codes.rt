@@ -1,6 +1,6 @@
 ghost use Rattle.std.specs.Prelude.{◌≡◌, map, take};
 ghost use Rattle.rv32i.specs.Decoded.{decoded};
-ghost use Rattle.check.specs.Windows.{counted};
+ghost use Rattle.code_check.specs.Windows.{counted};
 
 use rv32i::{Cause, Instruction};
 

@@ -1,4 +1,6 @@
 // A yard: up to eight domains over one code store and one memory.
+#![tactic(auto)]
+
 mod accesses;
 mod chains;
 mod codes;

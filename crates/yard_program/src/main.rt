@@ -1,4 +1,6 @@
 // The program: a script in, a line an answer out.
+#![tactic(auto)]
+
 use anyhow::anyhow;
 use std::io::Read;
 use std::{env, fs};

@@ -1,4 +1,6 @@
 // The script language: a command a line.
+#![tactic(auto)]
+
 mod code;
 mod commands;
 mod faults;

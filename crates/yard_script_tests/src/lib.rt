@@ -1,4 +1,6 @@
 // Scripts that are not run, and why.
+#![tactic(auto)]
+
 #[cfg(test)]
 mod tests {
     use std::alloc::Global;

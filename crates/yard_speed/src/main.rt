@@ -1,5 +1,7 @@
 // How fast a yard runs: the window in a file, called at its first word. With a number as second argument, which the window gets
 // in x10, the steps per second too.
+#![tactic(auto)]
+
 use anyhow::anyhow;
 use memories::flat::Flat;
 use memory::Memory;

@@ -3,10 +3,10 @@ use Rattle.std.proofs.Common.{◌≡◌, ℕ, ◌+◌, ◌%◌, ◌^◌, ◌<◌
 use Rattle.std.proofs.lemmas.Bool.{cases_eq, and_parts, eqb-true, leb-true, ltb-true, not-false, or_cases, or_left, or_right}
 use Rattle.segment.specs.Guards.{Row, Sound, apart, end}
 use Rattle.segment.specs.Rows.{made, bits_fit as segment_bits_fit, placed as segment_placed}
-use Rattle.check.specs.Windows.{bits_fit, placed as window_placed, words_from, windowed, Framed}
-use Rattle.check.specs.Verdicts.{and_then, checked}
-use Rattle.check.specs.Laws.{Safe}
-use Rattle.check.proofs.Meanings.{gives}
+use Rattle.code_check.specs.Windows.{bits_fit, placed as window_placed, words_from, windowed, Framed}
+use Rattle.code_check.specs.Verdicts.{and_then, checked}
+use Rattle.code_check.specs.Laws.{Safe}
+use Rattle.code_check.proofs.Meanings.{gives}
 use Rattle.domain.specs.Confined.{Admitted, InCode, Pointing, Confined, started}
 use Rattle.domain.proofs.Starts.{starts}
 use Rattle.yard_steps.specs.declared.states.State.TheVariants.{Idle}

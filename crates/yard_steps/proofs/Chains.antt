@@ -1,6 +1,6 @@
 -- The chain as it stays, shrinks and grows.
 use Rattle.std.proofs.Common.{◌≡◌, ℕ, zero, suc, ◌+◌, ◌<◌, Bool, true, false, List, [], ◌∷◌, length, get_or, sym, refl, ap, ◌∙◌, subst, inl, inr, add-one, arith}
-use Rattle.check.specs.Registers.{dedicated}
+use Rattle.code_check.specs.Registers.{dedicated}
 use Rattle.machine.specs.Registers.{written}
 use Rattle.domain.specs.Confined.{InCode, Pointing, Confined}
 use Rattle.domain.proofs.Steps.{enters}

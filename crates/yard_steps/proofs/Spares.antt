@@ -1,7 +1,7 @@
 -- A register that is not dedicated may be written at any time.
 use Rattle.std.proofs.Common.{◌≡◌, ℕ, ◌%◌, ◌^◌, ◌<◌, ◌≤◌, false, List, get_or, sym, ◌∙◌, subst, inl, inr, ⊎_elim, arith}
 use Rattle.segment.specs.Guards.{Inside}
-use Rattle.check.specs.Registers.{dedicated}
+use Rattle.code_check.specs.Registers.{dedicated}
 use Rattle.machine.specs.Registers.{written}
 use Rattle.domain.specs.Confined.{Domain, InCode, Confined}
 use Rattle.domain.proofs.Writes.{written-length, written-other, apart}

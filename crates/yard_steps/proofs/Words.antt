@@ -7,8 +7,8 @@ use Rattle.rv32i.specs.declared.operations.StoreOp.{StoreOp}
 use Rattle.rv32i.specs.declared.instructions.Instruction.{Instruction}
 use Rattle.rv32i.specs.declared.instructions.Instruction.TheVariants.{Lui, Auipc, Jal, Jalr, Branch, Load, Store, OpImm, ShiftImm, Op, Fence, Ecall, Ebreak}
 use Rattle.rv32i.specs.Decoded.{decoded}
-use Rattle.check.specs.Rules.{word_at}
-use Rattle.check.specs.Windows.{counted}
+use Rattle.code_check.specs.Rules.{word_at}
+use Rattle.code_check.specs.Windows.{counted}
 use Rattle.machine.specs.declared.effects.Effect.{Effect}
 use Rattle.machine.specs.declared.effects.Effect.TheVariants as effect
 use Rattle.machine.specs.declared.stops.Stop.{Stop}

@@ -20,8 +20,8 @@ use Rattle.refusal.specs.declared.refusals.Refusal.TheVariants.{Crowded, Segment
 use Rattle.refusal.specs.Told.{told}
 use Rattle.segment.specs.Guards.{Row, apart}
 use Rattle.segment.specs.Rows.{made}
-use Rattle.check.specs.Windows.{windowed}
-use Rattle.check.specs.Verdicts.{and_then, checked}
+use Rattle.code_check.specs.Windows.{windowed}
+use Rattle.code_check.specs.Verdicts.{and_then, checked}
 use Rattle.machine.specs.Registers.{value_of, written}
 use Rattle.domain.specs.Confined.{started}
 use Rattle.yard_steps.specs.declared.states.State.TheVariants.{Idle}

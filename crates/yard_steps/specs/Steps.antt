@@ -13,7 +13,7 @@ use Rattle.rv32i.specs.declared.causes.Cause.{Cause}
 use Rattle.rv32i.specs.declared.operations.LoadOp.{LoadOp}
 use Rattle.rv32i.specs.declared.instructions.Instruction.{Instruction}
 use Rattle.rv32i.specs.Decoded.{Decoding, decoded}
-use Rattle.check.specs.Windows.{counted}
+use Rattle.code_check.specs.Windows.{counted}
 use Rattle.machine.specs.declared.widths.Width.{Width}
 use Rattle.machine.specs.declared.widths.Width.TheVariants.{Byte, Half, Word}
 use Rattle.machine.specs.declared.widths.Datum.{Datum}

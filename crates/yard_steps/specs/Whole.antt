@@ -11,7 +11,7 @@
 use Rattle.std.specs.Prelude.{◌≡◌, ℕ, zero, suc, ◌+◌, ◌<◌, ◌≤◌, Bool, true, cond, ◌⊎◌, List, length, Some, Ok, ◌≢◌, slice_index}
 use Rattle.rv32i.specs.declared.instructions.Instruction.TheVariants.{Ecall}
 use Rattle.segment.specs.Guards.{apart, end}
-use Rattle.check.specs.Windows.{words_from, Framed}
+use Rattle.code_check.specs.Windows.{words_from, Framed}
 use Rattle.machine.specs.Executed.{next_of}
 use Rattle.domain.specs.Confined.{Domain as Placed, Admitted, InCode, Pointing, Confined}
 use Rattle.yard_steps.specs.declared.states.State.{State}

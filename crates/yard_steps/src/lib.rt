@@ -1,4 +1,6 @@
 // One step of a yard, as a plain model, and what holds of it: the fence.
+#![tactic(auto)]
+
 mod printing;
 mod reports;
 mod states;

@@ -13,7 +13,7 @@ ghost use Rattle.session.specs.Holds.{Vacant, holding, reported};
 use crate::answers::Answer;
 use crate::memories::Buffers;
 use crate::sessions::Session;
-use check::check;
+use code_check::check;
 use policy::Policy;
 use policy::any::AnyPolicy;
 use policy::rights::Rights;

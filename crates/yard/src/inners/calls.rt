@@ -8,7 +8,7 @@ ghost use Rattle.yard.specs.Views.{view, lead_to, shaped_in};
 use crate::domains::Domain;
 use crate::entries::Entry;
 use crate::inners::Inner;
-use check::{check, window};
+use code_check::{check, window};
 use domain::start;
 use refusal::Refusal;
 use segment::Segment;

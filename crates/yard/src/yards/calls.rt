@@ -1,6 +1,6 @@
 ghost use Rattle.std.specs.Prelude.{◌≡◌, IfOk};
 ghost use Rattle.refusal.specs.Told.{told_in};
-ghost use Rattle.check.specs.Verdicts.{checked};
+ghost use Rattle.code_check.specs.Verdicts.{checked};
 ghost use Rattle.yard_steps.specs.Model.{new_yard};
 ghost use Rattle.yard_steps.specs.Calls.{admitted, opened, called_from, replied, cut_off, register_of};
 ghost use Rattle.yard.specs.Yards.{seen, told_back};
@@ -24,7 +24,7 @@ impl<'a> Yard<'a> {
     pub fn check(&self, base: u32, m: u32) -> Result<(), Refusal>
         ensures is { told_in result ≡ checked (seen self.now).store base m }
     {
-        check::check(self.inner.store(), base, m)
+        code_check::check(self.inner.store(), base, m)
     }
 
     // A domain with the window of 2^m bytes from `base` and the segment of 2^k bytes from `data`. Of the registers that it is

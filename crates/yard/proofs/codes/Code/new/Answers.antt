@@ -1,6 +1,6 @@
 use Rattle.std.proofs.Common.{◌≡◌, ℕ, ◌-◌, map, take, ap, ◌∙◌, arith}
 use Rattle.rv32i.specs.Decoded.{decoded}
-use Rattle.check.specs.Windows.{counted}
+use Rattle.code_check.specs.Windows.{counted}
 use Rattle.yard.proofs.codes.Code.new.Goals as goal
 
 pub invariant-of-result : goal.invariant-of-result

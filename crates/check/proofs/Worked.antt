@@ -1,6 +1,0 @@
--- The examples compute.
-use Rattle.std.proofs.Common.{refl}
-use Rattle.check.specs.Examples.{Examples}
-
-pub examples : Examples
-examples = (refl, refl, refl)

@@ -1,9 +1,0 @@
-use Rattle.std.proofs.Common.{sym, ◌∙◌}
-use Rattle.check.proofs.Framing.{framed}
-use Rattle.check.proofs.windows.window.Goals as goal
-
-pub returns : goal.returns
-returns c = record {
-  is = c.words-from.ensures;
-  framed = λ ws e. framed c.args.store.now c.args.base c.args.m ws (sym c.words-from.ensures ∙ e);
-}

@@ -1,0 +1,30 @@
+use Rattle.std.proofs.Common.{◌≡◌, ℕ, ◌+◌, List, length, get_or, Ok, Err, sym, ap, ◌∙◌, subst, arith}
+use Rattle.std.proofs.lemmas.Result.{err_from_is_err_and}
+use Rattle.rv32i.specs.Decoded.{decoded}
+use Rattle.refusal.specs.Told.{told}
+use Rattle.code_check.specs.Verdicts.{Verdict, passed, passed_at, in_turn}
+use Rattle.code_check.proofs.Scan.{one_more, stops_at}
+use Rattle.code_check.proofs.checking.check_words.Goals as goal
+
+-- what the call says of a word is the verdict on its place
+here : (w : List ℕ) (i next : ℕ) (v : Verdict) → next ≡ get_or w (i + 1) 0 → v ≡ passed (length w) i (decoded next) (decoded (get_or w i 0)) → passed_at w i ≡ v
+here w i next v e h = sym (h ∙ ap (λ (x : ℕ). passed (length w) i (decoded x) (decoded (get_or w i 0))) e)
+
+pub returns-in-err-check-word : goal.returns-in-err-check-word
+returns-in-err-check-word c =
+    let w = c.args.window.now in
+    let i = c.loop-place.place in
+    let p = err_from_is_err_and c.from-residual.result c.from-residual.ensures.1 in
+    rw (p.1, p.2) (sym (stops_at (passed_at w) (length w) i _ c.loop-place-test.true c.loop-place.invariant (here w i c.following.result (Err (told c.in-err-check-word.field-0.0)) c.following.ensures c.in-err-check-word.ensures)))
+
+pub loop-place-preserved : goal.loop-place-preserved
+loop-place-preserved c =
+    let w = c.args.window.now in
+    let i = c.loop-place.place in
+    one_more (passed_at w) i c.loop-place.invariant (here w i c.following.result (Ok tt) c.following.ensures c.in-ok-check-word.ensures)
+
+pub returns : goal.returns
+returns c =
+    let w = c.args.window.now in
+    let end : c.loop-place.place ≡ length w = omega arith in
+    sym (subst (λ n. in_turn (passed_at w) n ≡ Ok tt) end c.loop-place.invariant)

@@ -1,0 +1,12 @@
+// Windows of a code store, and the rules that make one safe to run.
+#![tactic(auto)]
+
+mod aspects;
+mod checking;
+mod pointers;
+mod rules;
+mod windows;
+
+pub use checking::check;
+pub use pointers::Pointer;
+pub use windows::{bits_fit, code_mask, window};
