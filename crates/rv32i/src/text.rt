@@ -170,7 +170,7 @@ impl fmt::Display for Hexadecimal {
 }
 
 fn put_hexadecimal<W: fmt::Write>(f: &mut fmt::Formatter<W>, n: u32) -> fmt::Result
-    ensures { WritesOnOk write_str_gives f.old result (hexadecimal n) f.new }
+    ensures { WritesOnOk W.write_str_gives f.old result (hexadecimal n) f.new }
 {
     if n < 16 {
         return f.write_str(hex_digit(n));

@@ -6,7 +6,7 @@ use Rattle.code_check.proofs.checking.check.Goals as goal
 pub returns : goal.returns
 returns c =
     let s = c.args.store.now in
-    let e = c.check-window.ensures in
+    let e = c.check_window.ensures in
     record {
       is = e;
       judged = judged s c.args.base c.args.m _ e;

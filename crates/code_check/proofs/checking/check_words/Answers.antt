@@ -10,18 +10,18 @@ use Rattle.code_check.proofs.checking.check_words.Goals as goal
 here : (w : List ℕ) (i next : ℕ) (v : Verdict) → next ≡ get_or w (i + 1) 0 → v ≡ passed (length w) i (decoded next) (decoded (get_or w i 0)) → passed_at w i ≡ v
 here w i next v e h = sym (h ∙ ap (λ (x : ℕ). passed (length w) i (decoded x) (decoded (get_or w i 0))) e)
 
-pub returns-in-err-check-word : goal.returns-in-err-check-word
-returns-in-err-check-word c =
+pub returns-in_err-check_word : goal.returns-in_err-check_word
+returns-in_err-check_word c =
     let w = c.args.window.now in
     let i = c.loop-place.place in
-    let p = err_from_is_err_and c.from-residual.result c.from-residual.ensures.1 in
-    rw (p.1, p.2) (sym (stops_at (passed_at w) (length w) i _ c.loop-place-test.true c.loop-place.invariant (here w i c.following.result (Err (told c.in-err-check-word.field-0.0)) c.following.ensures c.in-err-check-word.ensures)))
+    let p = err_from_is_err_and c.from_residual.result c.from_residual.ensures.1 in
+    rw (p.1, p.2) (sym (stops_at (passed_at w) (length w) i _ c.loop-place-test.true c.loop-place.invariant (here w i c.following.result (Err (told c.in_err-check_word.field-0.0)) c.following.ensures c.in_err-check_word.ensures)))
 
 pub loop-place-preserved : goal.loop-place-preserved
 loop-place-preserved c =
     let w = c.args.window.now in
     let i = c.loop-place.place in
-    one_more (passed_at w) i c.loop-place.invariant (here w i c.following.result (Ok tt) c.following.ensures c.in-ok-check-word.ensures)
+    one_more (passed_at w) i c.loop-place.invariant (here w i c.following.result (Ok tt) c.following.ensures c.in_ok-check_word.ensures)
 
 pub returns : goal.returns
 returns c =

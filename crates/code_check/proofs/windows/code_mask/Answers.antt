@@ -4,6 +4,6 @@ use Rattle.code_check.proofs.windows.code_mask.Goals as goal
 
 pub returns : goal.returns
 returns c = record {
-  is = c.way-bits.ensures;
-  confines = λ k e. confines c.args.m k (sym c.way-bits.ensures ∙ e);
+  is = c.way_bits.ensures;
+  confines = λ k e. confines c.args.m k (sym c.way_bits.ensures ∙ e);
 }

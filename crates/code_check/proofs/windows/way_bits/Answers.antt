@@ -3,10 +3,10 @@ use Rattle.std.proofs.lemmas.Nat.{one_shl}
 use Rattle.code_check.proofs.Framing.{least-bits, most-bits}
 use Rattle.code_check.proofs.windows.way_bits.Goals as goal
 
-pub overflow-sub-result : goal.overflow-sub-result
-overflow-sub-result c =
+pub overflow_sub-result : goal.overflow_sub-result
+overflow_sub-result c =
     let m = c.args.m in
-    let fits = sym c.bits-fit.ensures.is ∙ c.if-not-bits-fit.false in
+    let fits = sym c.bits_fit.ensures.is ∙ c.if-not-bits_fit.false in
     let low = least-bits m fits in
     let high = most-bits m fits in
     omega (arith, one_shl m 32 (omega arith), pow_mono {i = 2} {j = m} (omega arith))

@@ -4,6 +4,6 @@ use Rattle.code_check.proofs.windows.window.Goals as goal
 
 pub returns : goal.returns
 returns c = record {
-  is = c.words-from.ensures;
-  framed = λ ws e. framed c.args.store.now c.args.base c.args.m ws (sym c.words-from.ensures ∙ e);
+  is = c.words_from.ensures;
+  framed = λ ws e. framed c.args.store.now c.args.base c.args.m ws (sym c.words_from.ensures ∙ e);
 }

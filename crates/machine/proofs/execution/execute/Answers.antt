@@ -5,6 +5,6 @@ use Rattle.machine.proofs.execution.execute.Goals as goal
 
 pub returns : goal.returns
 returns c = record {
-  is = c.effect-of.ensures;
-  aligned = subst Aligned (sym c.effect-of.ensures) (executed-aligned c.args.instruction c.args.registers.now c.args.pc);
+  is = c.effect_of.ensures;
+  aligned = subst Aligned (sym c.effect_of.ensures) (executed-aligned c.args.instruction c.args.registers.now c.args.pc);
 }

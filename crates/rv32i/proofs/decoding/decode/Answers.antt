@@ -9,7 +9,7 @@ pub returns : goal.returns
 returns c =
     let w = c.args.word in
     let lt : w < 2 ^ 32 = search rules in
-    let h = c.instruction-of.ensures in
+    let h = c.instruction_of.ensures in
     record {
       is = h;
       holds = λ i. (λ k. h ∙ holds-decodes w i k, λ e. decodes-holds w i (sym h ∙ e));

@@ -7,5 +7,5 @@ use Rattle.rv32i.proofs.encoding.encode.Goals as goal
 pub returns : goal.returns
 returns c =
     let i = c.args.instruction in
-    let h = c.word-of.ensures in
+    let h = c.word_of.ensures in
     record { is = h; decodes = λ w e. encoded-decodes i w (sym h ∙ e); none = subst (NoWordExactly i) (sym h) (no_word i) }

@@ -6,10 +6,10 @@ use Rattle.session.proofs.memories.peek_vec.Goals as goal
 
 pub returns : goal.returns
 returns c =
-    let long = c.as-mut-slice.ensures.len in
-    let kept = c.peek-slice.auto.buffer in
-    let lent = c.as-mut-slice.ensures.value in
+    let long = c.as_mut_slice.ensures.len in
+    let kept = c.peek_slice.auto.buffer in
+    let lent = c.as_mut_slice.ensures.value in
     record {
-      is = subst (λ (l : List ℕ). IfOk c.peek-slice.result (λ v. vec_items v ≡ peeked (counted l) c.args.address c.args.count)) lent c.peek-slice.ensures.is;
-      kept = with_items_is c.args.buffer.now c.peek-slice.new.buffer (omega arith) ∙ c.peek-slice.ensures.kept ∙ lent;
+      is = subst (λ (l : List ℕ). IfOk c.peek_slice.result (λ v. vec_items v ≡ peeked (counted l) c.args.address c.args.count)) lent c.peek_slice.ensures.is;
+      kept = with_items_is c.args.buffer.now c.peek_slice.new.buffer (omega arith) ∙ c.peek_slice.ensures.kept ∙ lent;
     }

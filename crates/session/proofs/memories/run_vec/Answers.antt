@@ -8,13 +8,13 @@ use Rattle.session.proofs.memories.run_vec.Goals as goal
 
 pub returns : goal.returns
 returns c =
-    let long = c.as-mut-slice.ensures.len in
-    let kept = c.run-slice.auto.buffer in
-    let held = with_items_is c.args.buffer.now c.run-slice.new.buffer (omega arith) in
+    let long = c.as_mut_slice.ensures.len in
+    let kept = c.run_slice.auto.buffer in
+    let held = with_items_is c.args.buffer.now c.run_slice.new.buffer (omega arith) in
     record {
       is =
-          ap (λ l. answered_by (seen c.run-slice.new.yard) (counted l) c.run-slice.result) held
-          ∙ c.run-slice.ensures.is
-          ∙ ap (λ l. running (any_allows c.args.policy.now) c.args.budget (seen c.args.yard.now) (counted l)) c.as-mut-slice.ensures.value;
-      token = c.run-slice.ensures.token;
+          ap (λ l. answered_by (seen c.run_slice.new.yard) (counted l) c.run_slice.result) held
+          ∙ c.run_slice.ensures.is
+          ∙ ap (λ l. running (any_allows c.args.policy.now) c.args.budget (seen c.args.yard.now) (counted l)) c.as_mut_slice.ensures.value;
+      token = c.run_slice.ensures.token;
     }

@@ -8,7 +8,7 @@ pub returns : goal.returns
 returns c =
     let ts = spoken (vec_items c.args.answers.now) in
     record {
-      is = IfOk-weaker c.follow-each-result.result _ _
-          (λ _ h. h ∙ ap (λ (s : State). ts ++ answers_of s c.args.commands.now) (c.in-ok-session.ensures.is c.args.store.now true))
-          c.follow-each-result.ensures.is;
+      is = IfOk-weaker c.follow_each-result.result _ _
+          (λ _ h. h ∙ ap (λ (s : State). ts ++ answers_of s c.args.commands.now) (c.in_ok-session.ensures.is c.args.store.now true))
+          c.follow_each-result.ensures.is;
     }

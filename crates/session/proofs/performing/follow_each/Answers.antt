@@ -9,7 +9,7 @@ loop-command-preserved c =
     let ws = c.args.store.now in
     loop-more c.args.commands.now c.loop-command.command-index c.command-item.result (view c.loop-command.session ws true) (view c.follow.new.session ws true)
     (spoken (vec_items c.loop-command.answers)) (spoken (vec_items c.follow.new.answers)) _ c.loop-command-test.true c.command-item.is
-    c.in-ok-follow.ensures.is c.loop-command.invariant
+    c.in_ok-follow.ensures.is c.loop-command.invariant
 
 pub returns : goal.returns
 returns c =

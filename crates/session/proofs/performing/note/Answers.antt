@@ -2,7 +2,7 @@ use Rattle.std.proofs.Common.{vec_items}
 use Rattle.session.proofs.Sayings.{spoken-noted}
 use Rattle.session.proofs.performing.note.Goals as goal
 
-pub returns-in-ok-push : goal.returns-in-ok-push
-returns-in-ok-push c = record {
-  is = spoken-noted (vec_items c.args.answers.now) (vec_items c.push.new.self) c.in-Some.answer c.args.answer c.in-ok-push.ensures.items c.in-Some.is;
+pub returns-in_ok-push : goal.returns-in_ok-push
+returns-in_ok-push c = record {
+  is = spoken-noted (vec_items c.args.answers.now) (vec_items c.push.new.self) c.in-Some.answer c.args.answer c.in_ok-push.ensures.items c.in-Some.is;
 }

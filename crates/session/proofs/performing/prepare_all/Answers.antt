@@ -14,15 +14,15 @@ pub returns : goal.returns
 returns c =
     let ws = vec_items c.args.code.now in
     let cs = c.args.commands.now in
-    let us = spoken (vec_items c.prepare-each-result.new.answers) in
-    let code = vec_items c.prepare-each-result.new.code in
+    let us = spoken (vec_items c.prepare_each-result.new.answers) in
+    let code = vec_items c.prepare_each-result.new.code in
     let none = c.new.ensures.items in
-    let rights = c.no-rights.ensures.is in
-    let fresh : view c.in-ok-session.session ws false ≡ opening ws = c.in-ok-session.ensures.is ws false ∙ (λ i. begun ws (none i) (rights i)) in
+    let rights = c.no_rights.ensures.is in
+    let fresh : view c.in_ok-session.session ws false ≡ opening ws = c.in_ok-session.ensures.is ws false ∙ (λ i. begun ws (none i) (rights i)) in
     record {
       is =
-          ap (λ (p : Buffers × AnyPolicy). us ++ following c.in-ok-yard.yard p.0 p.1 code cs) c.finish-memory.ensures.is
-          ∙ c.in-ok-yard.ensures.is
+          ap (λ (p : Buffers × AnyPolicy). us ++ following c.in_ok-yard.yard p.0 p.1 code cs) c.finish-memory.ensures.is
+          ∙ c.in_ok-yard.ensures.is
           ∙ ap (λ (s : State). spoken (vec_items c.args.answers.now) ++ answers_of s cs) fresh;
-      within = c.in-ok-yard.ensures.within;
+      within = c.in_ok-yard.ensures.within;
     }

@@ -11,11 +11,11 @@ Kept c o =
     spoken (vec_items c.prepare.new.answers) ++ answers_of (or_yard o (view c.prepare.new.session (vec_items c.prepare.new.code) false)) (drop (c.loop-i.i + 1) c.args.commands.now)
     ≡ spoken (vec_items c.args.answers.now) ++ answers_of (view c.args.session.now (vec_items c.args.code.now) false) c.args.commands.now
 
-kept : (c : In-ok-size) → Kept c c.in-ok-size.field-0
+kept : (c : In-ok-size) → Kept c c.in_ok-size.field-0
 kept c =
     loop-more c.args.commands.now c.loop-i.i c.index-commands-i.result (view c.loop-i.session (vec_items c.loop-i.code) false)
-    (or_yard c.in-ok-size.field-0 (view c.prepare.new.session (vec_items c.prepare.new.code) false)) (spoken (vec_items c.loop-i.answers))
-    (spoken (vec_items c.prepare.new.answers)) _ c.loop-i-test.true c.index-commands-i.is c.in-ok-size.ensures.is c.loop-i.invariant
+    (or_yard c.in_ok-size.field-0 (view c.prepare.new.session (vec_items c.prepare.new.code) false)) (spoken (vec_items c.loop-i.answers))
+    (spoken (vec_items c.prepare.new.answers)) _ c.loop-i-test.true c.index-commands-i.is c.in_ok-size.ensures.is c.loop-i.invariant
 
 pub returns-in-Some : goal.returns-in-Some
 returns-in-Some c =
@@ -23,7 +23,7 @@ returns-in-Some c =
     record { is = subst (Kept d) c.in-Some.is (kept d); within = omega arith }
 
 pub loop-i-preserved : goal.loop-i-preserved
-loop-i-preserved c = let d = (goal.at.loop-i-preserved c).In-ok-size in subst (Kept d) c.in-default.is (kept d)
+loop-i-preserved c = let d = (goal.at.loop-i-preserved c).In-ok-size in subst (Kept d) c.in_default.is (kept d)
 
 pub returns : goal.returns
 returns c =

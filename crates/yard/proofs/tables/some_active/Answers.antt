@@ -6,12 +6,12 @@ use Rattle.yard.proofs.Rows.{read}
 use Rattle.yard.proofs.Anys.{none_more, found-one}
 use Rattle.yard.proofs.tables.some_active.Goals as goal
 
-pub returns-then-is-active : goal.returns-then-is-active
-returns-then-is-active c =
+pub returns-then-is_active : goal.returns-then-is_active
+returns-then-is_active c =
     let here = ap (λ (d : Domain). is_active d.state) (read c.args.ds.now c.loop-i.i c.index-ds-i.result (omega arith)) in
-    sym (found-one (λ k. is_active (row_at c.args.ds.now k).state) c.loop-i.i c.args.count (omega arith) (sym here ∙ (sym c.is-active.ensures ∙ c.if-is-active.true)))
+    sym (found-one (λ k. is_active (row_at c.args.ds.now k).state) c.loop-i.i c.args.count (omega arith) (sym here ∙ (sym c.is_active.ensures ∙ c.if-is_active.true)))
 
 pub loop-i-preserved : goal.loop-i-preserved
 loop-i-preserved c =
     let here = ap (λ (d : Domain). is_active d.state) (read c.args.ds.now c.loop-i.i c.index-ds-i.result (omega arith)) in
-    none_more (λ k. is_active (row_at c.args.ds.now k).state) c.loop-i.i c.loop-i.invariant (sym here ∙ (sym c.is-active.ensures ∙ c.if-is-active.false))
+    none_more (λ k. is_active (row_at c.args.ds.now k).state) c.loop-i.i c.loop-i.invariant (sym here ∙ (sym c.is_active.ensures ∙ c.if-is_active.false))

@@ -7,5 +7,5 @@ use Rattle.segment.proofs.segments.Segment.mask.Goals as goal
 pub returns : goal.returns
 returns c =
     let s = c.args.self in
-    let same = c.low-bits.ensures in
+    let same = c.low_bits.ensures in
     record { is = same; confines = subst (Confines (row s)) (sym same) (λ x. masked-data s.base s.bits x s.aligned) }

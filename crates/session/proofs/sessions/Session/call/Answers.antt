@@ -5,18 +5,18 @@ use Rattle.session.specs.Views.{view}
 use Rattle.session.proofs.Pendings.{opened-held, called-held, cut-held}
 use Rattle.session.proofs.sessions.Session.call.Goals as goal
 
-pub invariant-of-self-in-Open : goal.invariant-of-self-in-Open
-invariant-of-self-in-Open c =
+pub invariant_of-self-in-Open : goal.invariant_of-self-in-Open
+invariant_of-self-in-Open c =
     let s = c.args.self.now in
     (opened-held (is_some s.pending) (seen s.yard) (seen c.open.new.self) s.held c.in-Open.gate c.in-Open.domain c.in-Open.offset _ c.open.ensures.is, tt)
 
-pub invariant-of-self-in-Call : goal.invariant-of-self-in-Call
-invariant-of-self-in-Call c =
+pub invariant_of-self-in-Call : goal.invariant_of-self-in-Call
+invariant_of-self-in-Call c =
     let s = c.args.self.now in
     (called-held (is_some s.pending) (seen s.yard) (seen c.call.new.self) s.held c.in-Call.gate c.in-Call.values _ c.call.ensures.is, tt)
 
-pub invariant-of-self-in-Cut : goal.invariant-of-self-in-Cut
-invariant-of-self-in-Cut c =
+pub invariant_of-self-in-Cut : goal.invariant_of-self-in-Cut
+invariant_of-self-in-Cut c =
     let s = c.args.self.now in
     (cut-held (is_some s.pending) (seen s.yard) (seen c.cut.new.self) s.held _ c.cut.ensures.is, tt)
 

@@ -6,8 +6,8 @@ use Rattle.session.specs.Holds.{holding}
 use Rattle.session.proofs.Pendings.{run-held}
 use Rattle.session.proofs.sessions.Session.run.Goals as goal
 
-pub invariant-of-self : goal.invariant-of-self
-invariant-of-self c =
+pub invariant_of-self : goal.invariant_of-self
+invariant_of-self c =
     let s = c.args.self.now in
     let o = c.run-outcome.result in (
       c.hold.ensures.held

@@ -7,8 +7,8 @@ use Rattle.yard.proofs.chains.Chain.with.Goals as goal
 room : (xs : List ℕ) (n : ℕ) → length xs ≡ 8 → n ≤ 8 → length (reverse (take n xs)) < 8 → n < 8
 room xs n long few lt = omega (arith, length-reverse (take n xs), length-take n xs)
 
-pub invariant-of-result : goal.invariant-of-result
-invariant-of-result c =
+pub invariant_of-result : goal.invariant_of-result
+invariant_of-result c =
     let xs = c.args.self.places in
     let n = c.args.self.depth in
     let x = c.args.domain in

@@ -5,7 +5,7 @@ use Rattle.yard.proofs.codes.fetching.decode_all.Goals as goal
 
 pub loop-word-preserved : goal.loop-word-preserved
 loop-word-preserved c =
-    c.in-ok-push.ensures.items
+    c.in_ok-push.ensures.items
     ∙ (ap (λ l. l ++ c.decode.result ∷ []) c.loop-word.invariant
     ∙ (ap (λ d. map decoded (take c.loop-word.word-index c.args.words.now) ++ d ∷ []) c.decode.ensures.is
     ∙ sym (map_more decoded c.args.words.now c.loop-word.word-index 0 (omega arith))))

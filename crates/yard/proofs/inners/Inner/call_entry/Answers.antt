@@ -5,7 +5,7 @@ use Rattle.yard.proofs.inners.Inner.call_entry.Goals as goal
 pub returns-then-not-allows : goal.returns-then-not-allows
 returns-then-not-allows g c = λ bs. c.halt.ensures bs ∙ sym (cond-false _ _ _ (sym c.allows.ensures.is ∙ c.if-not-allows.true))
 
-pub returns-then-not-is-idle : goal.returns-then-not-is-idle
-returns-then-not-is-idle g c = λ bs.
-    c.halt-then-not-is-idle.ensures bs
-    ∙ sym (cond-true _ _ _ (sym c.allows.ensures.is ∙ c.if-not-allows.false) ∙ cond-false _ _ _ (sym c.is-idle.ensures ∙ c.if-not-is-idle.true))
+pub returns-then-not-is_idle : goal.returns-then-not-is_idle
+returns-then-not-is_idle g c = λ bs.
+    c.halt-then-not-is_idle.ensures bs
+    ∙ sym (cond-true _ _ _ (sym c.allows.ensures.is ∙ c.if-not-allows.false) ∙ cond-false _ _ _ (sym c.is_idle.ensures ∙ c.if-not-is_idle.true))

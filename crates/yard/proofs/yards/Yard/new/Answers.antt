@@ -3,5 +3,5 @@ use Rattle.yard_steps.specs.Whole.{Whole}
 use Rattle.yard_steps.proofs.Hosts.{new-whole}
 use Rattle.yard.proofs.yards.Yard.new.Goals as goal
 
-pub invariant-of-result : goal.invariant-of-result
-invariant-of-result c = (∣ subst Whole (sym c.in-ok-inner.ensures) (new-whole c.args.store.now c.args.size) ∣₁, tt)
+pub invariant_of-result : goal.invariant_of-result
+invariant_of-result c = (∣ subst Whole (sym c.in_ok-inner.ensures) (new-whole c.args.store.now c.args.size) ∣₁, tt)

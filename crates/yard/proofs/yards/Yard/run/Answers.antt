@@ -11,21 +11,21 @@ use Rattle.yard.proofs.Props.{goes-prop}
 use Rattle.yard.proofs.Running.{while-pending, none-active, other-size, taken}
 use Rattle.yard.proofs.yards.Yard.run.Goals as goal
 
-pub returns-then-is-pending : goal.returns-then-is-pending
-returns-then-is-pending g c =
+pub returns-then-is_pending : goal.returns-then-is_pending
+returns-then-is_pending g c =
     let y = seen c.args.self.now in
     let A = g.P.Policy.allowed c.args.policy.now in
     let bs = g.M.Memory.bytes c.args.memory.now in
     let k = c.args.budget in
     record {
-      is = sym (ap (λ (o : Option Refusal). or_refused o y bs (ran A k 0 y bs)) (while-pending y bs (sym c.is-pending.ensures ∙ c.if-is-pending.true)));
+      is = sym (ap (λ (o : Option Refusal). or_refused o y bs (ran A k 0 y bs)) (while-pending y bs (sym c.is_pending.ensures ∙ c.if-is_pending.true)));
       lent = refl;
       token = tt;
       fenced = ∥∥₁_map c.args.self.now.whole (λ h. fence A k y bs h);
     }
 
-pub returns-then-not-has-active : goal.returns-then-not-has-active
-returns-then-not-has-active g c =
+pub returns-then-not-has_active : goal.returns-then-not-has_active
+returns-then-not-has_active g c =
     let y = seen c.args.self.now in
     let A = g.P.Policy.allowed c.args.policy.now in
     let bs = g.M.Memory.bytes c.args.memory.now in
@@ -33,7 +33,7 @@ returns-then-not-has-active g c =
     record {
       is = sym
           (ap (λ (o : Option Refusal). or_refused o y bs (ran A k 0 y bs))
-          (none-active y bs (sym c.is-pending.ensures ∙ c.if-is-pending.false) (sym c.has-active.ensures ∙ c.if-not-has-active.true)));
+          (none-active y bs (sym c.is_pending.ensures ∙ c.if-is_pending.false) (sym c.has_active.ensures ∙ c.if-not-has_active.true)));
       lent = refl;
       token = tt;
       fenced = ∥∥₁_map c.args.self.now.whole (λ h. fence A k y bs h);
@@ -48,21 +48,21 @@ returns-then-size g c =
     record {
       is = sym
           (ap (λ (o : Option Refusal). or_refused o y bs (ran A k 0 y bs))
-          (other-size y bs (sym c.is-pending.ensures ∙ c.if-is-pending.false) (sym c.has-active.ensures ∙ c.if-not-has-active.false)
+          (other-size y bs (sym c.is_pending.ensures ∙ c.if-is_pending.false) (sym c.has_active.ensures ∙ c.if-not-has_active.false)
           (λ e. c.if-size.true (c.size.ensures.is ∙ (e ∙ sym c.size-2.ensures)))));
       lent = refl;
       token = tt;
       fenced = ∥∥₁_map c.args.self.now.whole (λ h. fence A k y bs h);
     }
 
-pub run-on-requires : goal.run-on-requires
-run-on-requires g c =
+pub run_on-requires : goal.run_on-requires
+run_on-requires g c =
     let y = seen c.args.self.now in
     let bs = g.M.Memory.bytes c.args.memory.now in
     ∥∥₁_elim c.args.self.now.whole (goes-prop y)
     (λ h.
     let t = runnable y bs h
-    (taken y bs (sym c.is-pending.ensures ∙ c.if-is-pending.false) (sym c.has-active.ensures ∙ c.if-not-has-active.false)
+    (taken y bs (sym c.is_pending.ensures ∙ c.if-is_pending.false) (sym c.has_active.ensures ∙ c.if-not-has_active.false)
     (sym c.size.ensures.is ∙ (c.if-size.false ∙ c.size-2.ensures)))
     in
     record { some = t.0; free = t.1 })
@@ -73,15 +73,15 @@ returns g c =
     let A = g.P.Policy.allowed c.args.policy.now in
     let bs = g.M.Memory.bytes c.args.memory.now in
     let k = c.args.budget in
-    let y' = seen c.run-on.new.self in
-    let bs' = g.M.Memory.bytes c.run-on.new.memory in
-    let on = taken y bs (sym c.is-pending.ensures ∙ c.if-is-pending.false) (sym c.has-active.ensures ∙ c.if-not-has-active.false)
+    let y' = seen c.run_on.new.self in
+    let bs' = g.M.Memory.bytes c.run_on.new.memory in
+    let on = taken y bs (sym c.is_pending.ensures ∙ c.if-is_pending.false) (sym c.has_active.ensures ∙ c.if-not-has_active.false)
     (sym c.size.ensures.is ∙ (c.if-size.false ∙ c.size-2.ensures))
     in
     record {
       is = ap {B = Running} (λ (r : Report). record { yard = y'; bytes = bs'; answer = Ok r }) c.outcome.ensures.is
-          ∙ (ap (λ (a : Ran). or_refused None y bs a) c.run-on.ensures.is ∙ sym (ap (λ (o : Option Refusal). or_refused o y bs (ran A k 0 y bs)) on));
-      lent = c.run-on.ensures.lent;
+          ∙ (ap (λ (a : Ran). or_refused None y bs a) c.run_on.ensures.is ∙ sym (ap (λ (o : Option Refusal). or_refused o y bs (ran A k 0 y bs)) on));
+      lent = c.run_on.ensures.lent;
       token = c.outcome.ensures.token;
       fenced = ∥∥₁_map c.args.self.now.whole (λ h. fence A k y bs h);
     }

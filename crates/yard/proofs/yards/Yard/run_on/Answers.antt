@@ -12,8 +12,8 @@ loop-count-preserved g c =
     let y = seen c.loop-count.self in
     let bs = g.M.Memory.bytes c.loop-count.memory in (
       omega arith,
-      c.step.ensures.on c.in-default.is,
-      going A y (seen c.step.new.self) bs (g.M.Memory.bytes c.step.new.memory) (c.args.budget - c.loop-count.count) _ c.loop-count.count (omega arith) (omega arith) c.in-default.ensures.is
+      c.step.ensures.on c.in_default.is,
+      going A y (seen c.step.new.self) bs (g.M.Memory.bytes c.step.new.memory) (c.args.budget - c.loop-count.count) _ c.loop-count.count (omega arith) (omega arith) c.in_default.ensures.is
           ∙ c.loop-count.invariant.2,
       c.step.ensures.lent ∙ c.loop-count.invariant.3,
     )

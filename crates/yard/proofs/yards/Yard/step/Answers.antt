@@ -16,8 +16,8 @@ step-requires g c =
     let y = c.args.self.now in
     ∥∥₁_elim y.whole (ready_prop _ _) (λ h. ready (view y.inner) h c.requires.free c.requires.some)
 
-pub invariant-of-self : goal.invariant-of-self
-invariant-of-self g c =
+pub invariant_of-self : goal.invariant_of-self
+invariant_of-self g c =
     let y = c.args.self.now in
     let A = g.P.Policy.allowed c.args.policy.now in
     let bs = g.M.Memory.bytes c.args.memory.now in
