@@ -5,7 +5,7 @@ use Rattle.std.proofs.lemmas.Bool.Decides.{nat_tests}
 use Rattle.rv32i.specs.declared.instructions.Instruction.{Instruction}
 use Rattle.rv32i.specs.declared.instructions.Instruction.TheVariants.{Lui, Auipc, Jal, Jalr, Branch, Load, Store, OpImm, ShiftImm, Op, Fence, Ecall, Ebreak}
 use Rattle.rv32i.specs.Encoded.{given, is_register, twos, short, encoded}
-use Rattle.rv32i.specs.Laws.{Has12, HasB, HasU, HasJ, HasWord, NoWordExactly}
+use Rattle.rv32i.specs.Laws.{Has12, HasB, HasU, HasJ, NoWordExactly}
 
 register-decides : (r : ℕ) → Decides (is_register r) (r < 32)
 register-decides r = (λ e. grind (arith, nat_tests), λ h. grind (arith, nat_tests))

@@ -1,5 +1,5 @@
 -- The table, from an operation to its codes and back.
-use Rattle.std.proofs.Common.{◌≡◌, ℕ, Bool, [], ◌∷◌, Some, None, Ok, Err, Option, sym, refl, ◌∙◌, arith}
+use Rattle.std.proofs.Common.{◌≡◌, ℕ, Some, None, Ok, Err, Option, refl, arith}
 use Rattle.std.proofs.lemmas.Bool.Decides.{nat_tests}
 use Rattle.rv32i.specs.declared.causes.Cause.{Cause}
 use Rattle.rv32i.specs.declared.operations.BranchOp.{BranchOp}

@@ -2,7 +2,7 @@
 --   hexadecimal n   n in small hexadecimal digits, with no zeros in front; at most eight digits
 --   xName op        the mnemonic of an operation of the group x
 --   text_of i        the text of i, such as: addi x1,x0,-1
-use Rattle.std.specs.Prelude.{ℕ, zero, suc, ◌+◌, ◌-◌, ◌/◌, ◌%◌, ◌^◌, false, cond, List, [], ◌∷◌, ◌++◌, ℤ, codes, decimal, nat_lt}
+use Rattle.std.specs.Prelude.{ℕ, zero, suc, ◌/◌, ◌%◌, ◌^◌, false, cond, List, [], ◌∷◌, ◌++◌, ℤ, codes, decimal, nat_lt}
 use Rattle.std.specs.Fmt.{signed_decimal, digit_glyph}
 use Rattle.rv32i.specs.declared.operations.BranchOp.{BranchOp}
 use Rattle.rv32i.specs.declared.operations.BranchOp.TheVariants.{Beq, Bne, Blt, Bge, Bltu, Bgeu}
