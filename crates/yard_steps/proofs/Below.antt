@@ -4,10 +4,10 @@ use Rattle.std.proofs.lemmas.Bool.{cases_lt, or_cases, or_parts, both_ways}
 use Rattle.yard_steps.specs.Model.{any_below}
 
 -- one that passes
-pub any_below : (n : ℕ) (f : ℕ → Bool) → any_below n f ≡ true → (j : ℕ) × (j < n) × (f j ≡ true)
-any_below zero f e = absurd (both_ways false (refl) e)
-any_below (suc n) f e =
-    ⊎_elim (λ h. (n, omega arith, h)) (λ h. let t = any_below n f h in (t.0, omega (arith, t.1), t.2)) (or_cases (f n) (any_below n f) e)
+pub one_below : (n : ℕ) (f : ℕ → Bool) → any_below n f ≡ true → (j : ℕ) × (j < n) × (f j ≡ true)
+one_below zero f e = absurd (both_ways false (refl) e)
+one_below (suc n) f e =
+    ⊎_elim (λ h. (n, omega arith, h)) (λ h. let t = one_below n f h in (t.0, omega (arith, t.1), t.2)) (or_cases (f n) (any_below n f) e)
 
 -- none passes
 pub none_below : (n : ℕ) (f : ℕ → Bool) → any_below n f ≡ false → (j : ℕ) → j < n → f j ≡ false

@@ -10,7 +10,7 @@ use Rattle.yard_steps.specs.Model.{Yard, at, some_active}
 use Rattle.yard_steps.specs.Steps.{Ran, stepped, on, ran}
 use Rattle.yard_steps.specs.Calls.{run_refused, or_refused, running}
 use Rattle.yard_steps.specs.Whole.{Whole}
-use Rattle.yard_steps.proofs.Below.{any_below}
+use Rattle.yard_steps.proofs.Below.{one_below}
 use Rattle.yard_steps.proofs.Outcomes.{outcome}
 
 active-is : (s : State) → is_active s ≡ true → s ≡ Active
@@ -28,7 +28,7 @@ unrefused false false m e = absurd (let z : ◌≡◌ {A = ℕ} 0 1 = cc in omeg
 pub runnable : (y : Yard) (bs : List ℕ) → Whole y → run_refused y bs ≡ None → (0 < length y.chain) × (y.pending ≡ false)
 runnable y bs W e =
     let t = unrefused y.pending (some_active y) (eqb (length bs) y.size) e in
-    let j = any_below y.count (λ c. is_active (at y c).state) t.1 in
+    let j = one_below y.count (λ c. is_active (at y c).state) t.1 in
     let o = W.alone j.0 j.1 (inl (active-is _ j.2)) in
     let l = o.1 in
     (omega arith, t.0)

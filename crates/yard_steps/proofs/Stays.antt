@@ -10,7 +10,7 @@ use Rattle.machine.specs.Widths.{bytes_of, width_of}
 use Rattle.yard_steps.specs.Model.{Yard, at, mapped}
 use Rattle.yard_steps.specs.Steps.{put_datum}
 use Rattle.yard_steps.specs.Whole.{Whole}
-use Rattle.yard_steps.proofs.Below.{any_below}
+use Rattle.yard_steps.proofs.Below.{one_below}
 use Rattle.yard_steps.proofs.Puts.{put-elsewhere}
 
 -- the width of an access is 1, 2 or 4
@@ -30,7 +30,7 @@ module _ (y : Yard) (W : Whole y) (c : ℕ) (lt : c < y.count) where
   -- what is near the current domain's segment, and mapped, is its own
   own : (a : ℕ) → (a < 1048576 → Near (at y c).segment a) → mapped y a ≡ true → Inside (at y c).segment a
   own a near m =
-      let t = any_below y.count (λ k. inside (at y k).segment a) m in
+      let t = one_below y.count (λ k. inside (at y k).segment a) m in
       let j = t.0 in
       let there = is-inside (at y j).segment a t.2 in
       let top = (W.admitted j t.1).sound.fits in
