@@ -12,15 +12,15 @@ invariant_of-result c =
     let xs = c.args.self.places in
     let n = c.args.self.depth in
     let x = c.args.domain in
-    let lt : n < 8 = room xs n (omega arith) (omega arith) c.requires.1 in (
-      omega arith,
-      (
+    let lt : n < 8 = room xs n (omega arith) (omega arith) c.requires.1 in
+    record {
+      few = omega arith;
+      known =
         below_more (λ k. get_or (set xs n x) k 0 < 8) n
             (λ k h. subst (λ v. v < 8) (sym (get_or-set_other xs n k x 0 (λ e. omega arith))) (c.args.self.known k h))
-            (subst (λ v. v < 8) (sym (get_or-set_same xs n x 0 (omega arith))) c.requires.0),
-        (last_set xs n x (omega arith), tt),
-      ),
-    )
+            (subst (λ v. v < 8) (sym (get_or-set_same xs n x 0 (omega arith))) c.requires.0);
+      last = last_set xs n x (omega arith);
+    }
 
 pub returns : goal.returns
 returns c =

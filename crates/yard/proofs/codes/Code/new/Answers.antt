@@ -7,4 +7,4 @@ pub invariant_of-result : goal.invariant_of-result
 invariant_of-result c =
     let ws = c.args.store.now in
     let n : c.min.result - 0 ≡ counted ws = omega (arith, c.min.ensures) in
-    (c.in_ok-cells.ensures ∙ ap (λ k. map decoded (take k ws)) n, tt)
+    record { decoded = c.in_ok-cells.ensures ∙ ap (λ k. map decoded (take k ws)) n }

@@ -8,4 +8,4 @@ use Rattle.yard.proofs.yards.Yard.cut.Goals as goal
 pub invariant_of-self : goal.invariant_of-self
 invariant_of-self c =
     let y = c.args.self.now in
-    (∥∥₁_map y.whole (λ h. subst Whole (sym (ap (λ p. p.0) c.cut.ensures)) (cut-whole (view y.inner) h)), tt)
+    record { whole = ∥∥₁_map y.whole (λ h. subst Whole (sym (ap (λ p. p.0) c.cut.ensures)) (cut-whole (view y.inner) h)) }

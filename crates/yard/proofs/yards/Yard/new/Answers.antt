@@ -4,4 +4,4 @@ use Rattle.yard_steps.proofs.Hosts.{new-whole}
 use Rattle.yard.proofs.yards.Yard.new.Goals as goal
 
 pub invariant_of-result : goal.invariant_of-result
-invariant_of-result c = (∣ subst Whole (sym c.in_ok-inner.ensures) (new-whole c.args.store.now c.args.size) ∣₁, tt)
+invariant_of-result c = record { whole = ∣ subst Whole (sym c.in_ok-inner.ensures) (new-whole c.args.store.now c.args.size) ∣₁ }

@@ -21,7 +21,7 @@ invariant_of-self g c =
     let y = c.args.self.now in
     let A = g.P.Policy.allowed c.args.policy.now in
     let bs = g.M.Memory.bytes c.args.memory.now in
-    (∥∥₁_map y.whole (λ h. subst Whole (sym (ap (λ (a : After). a.yard) c.step.ensures.is)) (kept A (view y.inner) bs h c.requires.some c.requires.free)), tt)
+    record { whole = ∥∥₁_map y.whole (λ h. subst Whole (sym (ap (λ (a : After). a.yard) c.step.ensures.is)) (kept A (view y.inner) bs h c.requires.some c.requires.free)) }
 
 pub returns : goal.returns
 returns g c =
