@@ -1,8 +1,8 @@
 -- The words of a window.
-use Rattle.std.proofs.Common.{◌≡◌, ℕ, ◌+◌, ◌-◌, ◌*◌, ◌/◌, ◌%◌, ◌^◌, ◌<◌, ◌≤◌, min, true, false, eqb, leb, List, length, get_or, take, drop, Ok, Err, sym, refl, ap, ◌∙◌, subst, ⊎_elim, arith, pow_mono, pow-add}
+use Rattle.std.proofs.Common.{◌≡◌, ℕ, ◌+◌, ◌-◌, ◌*◌, ◌/◌, ◌%◌, ◌^◌, ◌≤◌, true, false, eqb, leb, List, length, drop, Ok, refl, ap, ◌∙◌, subst, ⊎_elim, arith, pow-add}
 use lib.Bits.{bit_and, bit_or}
 use Rattle.std.proofs.lemmas.List.{length-take-le, length-drop, get_or-take, get_or-drop}
-use Rattle.std.proofs.lemmas.Bool.{cases_Bool, and_parts, leb-true, eqb-true, cond-true, cond-false}
+use Rattle.std.proofs.lemmas.Bool.{cases_Bool, and_parts, leb-true, eqb-true}
 use Rattle.code_check.specs.Windows.{counted, bits_fit, placed, words_from, windowed, Framed, code_mask_of, WordOf, Confines}
 use Rattle.segment.proofs.Blocks.{masked-code}
 

@@ -1,13 +1,13 @@
 -- The verdict is lawful.
-use Rattle.std.proofs.Common.{◌≡◌, ℕ, ◌+◌, ◌<◌, ◌≤◌, Bool, true, false, List, [], length, get_or, Some, None, Ok, Err, Option, sym, refl, ap, ◌∙◌, subst, arith}
+use Rattle.std.proofs.Common.{◌≡◌, ℕ, ◌<◌, List, length, Some, None, Ok, Err, Option, sym, refl, ap, ◌∙◌, subst, arith}
 use Rattle.rv32i.specs.Table.{first}
-use Rattle.rv32i.specs.Decoded.{Decoding, decoded}
+use Rattle.rv32i.specs.Decoded.{Decoding}
 use Rattle.refusal.specs.declared.rules.Rule.{Rule}
 use Rattle.refusal.specs.declared.rules.Rule.TheVariants.{Decodes, StoreBase, JumpBase, Dedicated, Paired, Target, Ending}
 use Rattle.refusal.specs.Told.{rule_number}
 use Rattle.code_check.specs.Rules.{breaks, rules, word_at}
 use Rattle.code_check.specs.Windows.{windowed}
-use Rattle.code_check.specs.Verdicts.{Verdict, broken_at, reported, passed_at, and_then, in_turn, verdict, checked}
+use Rattle.code_check.specs.Verdicts.{Verdict, broken_at, reported, passed_at, and_then, verdict, checked}
 use Rattle.code_check.specs.Laws.{Clean, Accepted, First, Lawful, Judged}
 use Rattle.code_check.proofs.Scan.{ok-below, below-ok, stops_at, stopped-at, none-breaks, breaks-none, some-breaks, breaks-some}
 

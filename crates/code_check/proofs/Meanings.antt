@@ -1,9 +1,9 @@
 -- A word breaks a rule exactly where it does not keep it.
-use Rattle.std.proofs.Common.{◌≡◌, ℕ, suc, ◌+◌, ◌-◌, ◌*◌, ◌/◌, ◌%◌, ◌<◌, ◌≤◌, Bool, true, false, not, ◌&&◌, ◌||◌, eqb, ltb, leb, ◌⊎◌, List, length, get_or, ℤ, pos, negsuc, ◌+ℤ◌, is_some as option_is_some, Some, None, Ok, Err, Option, Result, sym, refl, ap, ◌∙◌, subst, inl, inr, ⊎_elim, arith}
+use Rattle.std.proofs.Common.{◌≡◌, ℕ, suc, ◌+◌, ◌-◌, ◌*◌, ◌/◌, ◌%◌, ◌<◌, ◌≤◌, Bool, true, false, not, ◌&&◌, ◌||◌, eqb, ltb, leb, List, length, ℤ, pos, negsuc, ◌+ℤ◌, is_some as option_is_some, Some, None, Ok, Err, Option, Result, sym, refl, ap, ◌∙◌, subst, inl, inr, ⊎_elim, arith}
 use Rattle.std.proofs.lemmas.List.{get_or_past}
 use Rattle.std.proofs.lemmas.Int.{ints}
 use Rattle.std.proofs.lemmas.Bool.Decides.{nat_tests}
-use Rattle.std.proofs.lemmas.Bool.{cases_lt, and_parts, and_cases, cases_Bool, eqb-true, leb-true, ltb-true, eq-eqb, le-leb, lt-ltb, not-true, not-false, both_ways, and_from, not_from_true, or_parts, or_cases}
+use Rattle.std.proofs.lemmas.Bool.{cases_lt, and_parts, and_cases, eqb-true, leb-true, ltb-true, eq-eqb, le-leb, lt-ltb, not-true, not-false, both_ways, and_from, or_parts, or_cases}
 use Rattle.rv32i.specs.declared.operations.StoreOp.{StoreOp}
 use Rattle.rv32i.specs.declared.operations.RegOp.{RegOp}
 use Rattle.rv32i.specs.declared.operations.RegOp.TheVariants.{Add, Sub, Sll, Slt, Sltu, Xor, Srl, Sra, Or, And}
@@ -22,7 +22,7 @@ use Rattle.code_check.specs.Aspects.{written, store_base, jump_base, offset, lea
 use Rattle.code_check.specs.Rules.{lands, is_zero, breaks_at, breaks, word_at}
 use Rattle.code_check.specs.Windows.{windowed}
 use Rattle.code_check.specs.Verdicts.{Verdict, and_then, verdict, checked}
-use Rattle.code_check.specs.Laws.{MaskWord, BaseWord, KeepsAt, Keeps, Meant, Safe, Gives}
+use Rattle.code_check.specs.Laws.{MaskWord, BaseWord, KeepsAt, Keeps, Meant, Gives}
 use Rattle.code_check.proofs.Framing.{framed}
 use Rattle.code_check.proofs.Lawfully.{checked-at, verdict-accepted}
 

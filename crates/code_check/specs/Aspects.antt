@@ -13,7 +13,7 @@
 --   base_of i        the pointer of which i is a base word
 --   any p o         o holds something that passes p
 --   is_base_of q d    the word that decodes to d is a base word of q
-use Rattle.std.specs.Prelude.{ℕ, Bool, true, false, cond, ◌&&◌, List, [], ◌∷◌, ℤ, Some, None, Ok, Err, Option, ◌==◌, nat_eq}
+use Rattle.std.specs.Prelude.{ℕ, Bool, true, false, ◌&&◌, List, [], ◌∷◌, ℤ, Some, None, Ok, Err, Option, ◌==◌, nat_eq}
 use Rattle.rv32i.specs.declared.operations.RegOp.{RegOp}
 use Rattle.rv32i.specs.declared.operations.RegOp.TheVariants.{Add, Sub, Sll, Slt, Sltu, Xor, Srl, Sra, Or, And}
 use Rattle.rv32i.specs.declared.instructions.Instruction.{Instruction}

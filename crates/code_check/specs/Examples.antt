@@ -1,6 +1,6 @@
 -- Worked examples of the check, on windows of 64 bytes. Assumes nothing.
 --   0x00108093 is ADDI x1,x1,1; 0x00100073 is EBREAK; 0x0195FDB3 is the mask word AND x27,x11,x25
-use Rattle.std.specs.Prelude.{◌≡◌, ℕ, List, [], ◌∷◌, ◌++◌, replicate, Ok, Err}
+use Rattle.std.specs.Prelude.{◌≡◌, [], ◌∷◌, ◌++◌, replicate, Ok, Err}
 use Rattle.code_check.specs.Verdicts.{checked}
 
 abbrev pub Examples : Type 0

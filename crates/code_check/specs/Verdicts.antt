@@ -9,7 +9,7 @@
 --   in_turn f n           the first refusal among f 0 to f (n - 1)
 --   verdict ws           the first refusal among the words of the window ws
 --   checked s b m        the verdict on the window of 2 ^ m bytes from the address b of the store s
-use Rattle.std.specs.Prelude.{ℕ, zero, suc, ◌+◌, List, [], ◌∷◌, length, Some, None, Ok, Err, Option, Result}
+use Rattle.std.specs.Prelude.{ℕ, zero, suc, ◌+◌, List, length, Some, None, Ok, Err, Option, Result}
 use Rattle.rv32i.specs.declared.causes.Cause.{Cause}
 use Rattle.rv32i.specs.Table.{first}
 use Rattle.rv32i.specs.Decoded.{Decoding}

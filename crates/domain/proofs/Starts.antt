@@ -1,11 +1,11 @@
 -- A domain begins confined.
-use Rattle.std.proofs.Common.{◌≡◌, ℕ, ◌+◌, ◌-◌, ◌%◌, ◌^◌, ◌<◌, ◌≤◌, cond, ◌≢◌, List, length, get_or, set, Ok, Err, Result, sym, refl, ap, ◌∙◌, subst, inl, arith, length-set, get_or-set_other, get_or-set_same}
+use Rattle.std.proofs.Common.{◌≡◌, ℕ, ◌-◌, ◌^◌, ◌<◌, ◌≤◌, ◌≢◌, List, length, get_or, set, Ok, Result, sym, ap, ◌∙◌, subst, inl, arith, length-set, get_or-set_other, get_or-set_same}
 use Rattle.std.proofs.lemmas.Nat.{pow_pos}
 use Rattle.std.proofs.lemmas.Bool.Decides.{nat_tests}
 use Rattle.segment.specs.Guards.{Row, Inside}
 use Rattle.code_check.specs.Verdicts.{and_then}
-use Rattle.code_check.specs.Windows.{bits_fit, code_mask_of}
-use Rattle.domain.specs.Confined.{Domain, Admitted, InCode, Pointing, Held, Confined, with_dedicated, started, Starts}
+use Rattle.code_check.specs.Windows.{code_mask_of}
+use Rattle.domain.specs.Confined.{Domain, Admitted, InCode, Pointing, Confined, with_dedicated, Starts}
 use Rattle.domain.proofs.Places.{quad}
 
 -- the places of what was written, the last write first

@@ -1,18 +1,16 @@
 -- A step keeps a domain confined: one clause for each instruction.
-use Rattle.std.proofs.Common.{◌≡◌, ℕ, ◌+◌, ◌-◌, ◌*◌, ◌%◌, ◌^◌, ◌<◌, ◌≤◌, Bool, true, false, cond, eqb, ◌⊎◌, List, length, get_or, ℤ, pos, Some, Ok, Err, sym, refl, ap, ◌∙◌, subst, inl, inr, ⊎_elim, arith}
+use Rattle.std.proofs.Common.{◌≡◌, ℕ, ◌%◌, ◌^◌, ◌<◌, ◌≤◌, Bool, true, false, cond, eqb, ◌⊎◌, List, get_or, Some, Ok, sym, refl, ap, ◌∙◌, subst, inl, inr, ⊎_elim, arith}
 use lib.Bits.{bit_and, bit_or}
 use Rattle.std.proofs.lemmas.Nat.{pow_pos, and_le_r, and_mask, mod_below}
-use Rattle.std.proofs.lemmas.Bool.{cases_Bool, cond_both, eqb-false}
+use Rattle.std.proofs.lemmas.Bool.{cases_Bool, cond_both}
 use Rattle.std.proofs.lemmas.Bool.Decides.{nat_tests}
 use Rattle.rv32i.specs.declared.operations.RegOp.{RegOp}
 use Rattle.rv32i.specs.declared.operations.RegOp.TheVariants.{Or, And}
-use Rattle.rv32i.specs.declared.operations.StoreOp.{StoreOp}
-use Rattle.rv32i.specs.declared.operations.LoadOp.{LoadOp}
 use Rattle.rv32i.specs.declared.instructions.Instruction.{Instruction}
 use Rattle.rv32i.specs.declared.instructions.Instruction.TheVariants.{Lui, Auipc, Jal, Jalr, Branch, Load, Store, OpImm, ShiftImm, Op, Fence, Ecall, Ebreak}
 use Rattle.refusal.specs.declared.rules.Rule.{Rule}
 use Rattle.refusal.specs.declared.rules.Rule.TheVariants.{Decodes, StoreBase, JumpBase, Dedicated, Paired, Target, Ending}
-use Rattle.segment.specs.Guards.{Row, Inside, Near, end}
+use Rattle.segment.specs.Guards.{Inside, Near}
 use Rattle.segment.proofs.Blocks.{or-base, or-quad, and-quad, power-quad}
 use Rattle.code_check.specs.declared.pointers.Pointer.{Pointer}
 use Rattle.code_check.specs.declared.pointers.Pointer.TheVariants.{Data, Code}
@@ -20,18 +18,16 @@ use Rattle.code_check.specs.Registers.{register, mask, base, dedicated}
 use Rattle.code_check.specs.Aspects.{leaves, written as writes}
 use Rattle.code_check.specs.Rules.{word_at}
 use Rattle.code_check.specs.Laws.{Keeps, MaskWord, BaseWord}
-use Rattle.machine.specs.declared.effects.Effect.{Effect}
 use Rattle.machine.specs.declared.effects.Effect.TheVariants as effect
-use Rattle.machine.specs.declared.stops.Stop.TheVariants as stop
 use Rattle.machine.specs.Registers.{written, value_of}
 use Rattle.machine.specs.Arithmetic.{plus}
 use Rattle.machine.specs.Branches.{is_taken}
 use Rattle.machine.specs.Widths.{aligned}
 use Rattle.machine.specs.Accesses.{load_width, store_width}
-use Rattle.machine.specs.Executed.{next_of, even, linked, branched, loads, stores, executed}
+use Rattle.machine.specs.Executed.{next_of, even, linked, executed}
 use Rattle.domain.specs.Confined.{Domain, Admitted, InCode, place_of, BaseAt, Pointing, Held, Confined, Fine, Confines, Enters}
 use Rattle.domain.proofs.Writes.{written-length, written-other, apart, written-26, written-27}
-use Rattle.domain.proofs.Places.{Short, quad, place-lt, next-in, next_place, target-in, straight, near}
+use Rattle.domain.proofs.Places.{quad, place-lt, next-in, next_place, target-in, straight, near}
 use Rattle.domain.proofs.Shorts.{short-store}
 
 -- no base word, and no mask word

@@ -1,6 +1,6 @@
 -- What holds of every effect. Assumes nothing.
 --   Aligned e   the address of an access is a multiple of its width, and the target of a jump of 4
-use Rattle.std.specs.Prelude.{◌≡◌, ℕ, ◌%◌}
+use Rattle.std.specs.Prelude.{◌≡◌, ◌%◌}
 use Rattle.machine.specs.declared.effects.Effect.{Effect}
 use Rattle.machine.specs.declared.effects.Effect.TheVariants.{Set, Read, Write, Link, Jump, Next, Call, Stop}
 use Rattle.machine.specs.Widths.{bytes_of, width_of}

@@ -1,5 +1,5 @@
 -- An aligned access that begins in a segment ends in it.
-use Rattle.std.proofs.Common.{◌≡◌, ℕ, ◌+◌, ◌%◌, ◌^◌, ◌<◌, ◌≤◌, true, ltb, leb, ◌⊎◌, ⊎_elim, arith}
+use Rattle.std.proofs.Common.{◌≡◌, ℕ, ◌%◌, ◌^◌, ◌≤◌, true, ltb, leb, ⊎_elim, arith}
 use Rattle.std.proofs.lemmas.Bool.{and_parts, leb-true, ltb-true}
 use Rattle.segment.specs.Guards.{Row, end, inside, Inside, Whole}
 use Rattle.segment.proofs.Blocks.{power-quad, base-quad}

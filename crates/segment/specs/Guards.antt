@@ -8,7 +8,7 @@
 --   Confines s m     whatever is masked by m and then has the base of s brought in lies in s
 --   Guards s t       what is near one of s and t is not in the other
 --   Whole s a        an access of 1, 2 or 4 bytes at a, a multiple of their number, lies in s as a whole
-use Rattle.std.specs.Prelude.{◌≡◌, ℕ, ◌+◌, ◌%◌, ◌^◌, ◌<◌, ◌≤◌, Bool, true, ◌&&◌, ◌||◌, ◌⊎◌, bit_and, bit_or, nat_le, nat_lt}
+use Rattle.std.specs.Prelude.{◌≡◌, ℕ, ◌+◌, ◌%◌, ◌^◌, ◌<◌, ◌≤◌, Bool, ◌&&◌, ◌||◌, ◌⊎◌, bit_and, bit_or, nat_le, nat_lt}
 
 pub record Row : Type 0 where
   pub base : ℕ

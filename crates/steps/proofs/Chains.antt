@@ -1,5 +1,5 @@
 -- The chain as it grows and shrinks.
-use Rattle.std.proofs.Common.{◌≡◌, ℕ, zero, suc, ◌+◌, ◌<◌, Bool, true, false, List, [], ◌∷◌, length, get_or, sym, refl, ap, ◌∙◌, subst, add-one, arith}
+use Rattle.std.proofs.Common.{◌≡◌, ℕ, ◌+◌, ◌<◌, Bool, List, [], ◌∷◌, length, get_or, sym, refl, ap, ◌∙◌, subst, add-one, arith}
 use Rattle.steps.specs.declared.states.State.{State}
 use Rattle.steps.specs.declared.states.State.TheVariants.{Idle, Active, AtHost, Stopped}
 use Rattle.steps.specs.declared.states.Event.{Event}

@@ -1,5 +1,5 @@
 -- No step faults, and control crosses only where it may.
-use Rattle.std.proofs.Common.{◌≡◌, ℕ, zero, suc, ◌+◌, ◌<◌, ◌≤◌, Bool, true, false, cond, eqb, ltb, ◌⊎◌, List, [], ◌∷◌, length, get_or, set, Some, None, Option, sym, refl, ap, ◌∙◌, subst, inl, inr, ⊎_elim, arith, length-set, get_or-set_other, get_or-set_same}
+use Rattle.std.proofs.Common.{◌≡◌, ℕ, ◌<◌, ◌≤◌, Bool, true, false, eqb, ltb, ◌⊎◌, List, [], ◌∷◌, length, get_or, set, Some, None, Option, sym, refl, ap, ◌∙◌, subst, inl, inr, ⊎_elim, arith, length-set, get_or-set_other, get_or-set_same}
 use Rattle.std.proofs.lemmas.List.{set_past}
 use Rattle.std.proofs.lemmas.Bool.{cond_both, cases_eq, cases_lt}
 use Rattle.machine.specs.declared.stops.Stop.{Stop}
@@ -11,11 +11,10 @@ use Rattle.machine.specs.Registers.{value_of}
 use Rattle.machine.specs.Executed.{executed}
 use Rattle.domain.specs.Confined.{Possible, Fine}
 use Rattle.domain.proofs.Steps.{confined}
-use Rattle.steps.specs.declared.reports.Reason.{Reason}
 use Rattle.steps.specs.declared.reports.Reason.TheVariants as reason
 use Rattle.steps.specs.Model.{Domain, Entry, Yard, nobody, at, put, gate_at, mapped}
 use Rattle.steps.specs.declared.states.Event.TheVariants as event
-use Rattle.steps.specs.Steps.{Ending, After, turned, after, chained, told, rest, behind, halted, hosted, returned_to, entered, is_idle, gated, called, done, performed, stepped}
+use Rattle.steps.specs.Steps.{Ending, After, after, chained, told, rest, behind, halted, returned_to, entered, is_idle, gated, called, done, performed, stepped}
 use Rattle.steps.specs.Whole.{Whole, placed}
 use Rattle.steps.specs.Fence.{current, Faultless, Crosses}
 use Rattle.steps.proofs.Chains.{rest_at}

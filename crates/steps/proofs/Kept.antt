@@ -1,5 +1,5 @@
 -- What holds of a yard holds after a step.
-use Rattle.std.proofs.Common.{◌≡◌, ℕ, zero, suc, ◌+◌, ◌<◌, Bool, true, false, cond, eqb, ltb, ◌⊎◌, List, [], ◌∷◌, length, get_or, set, Some, None, Option, sym, refl, ap, ◌∙◌, subst, inl, inr, ⊎_elim, arith, length-set, get_or-set_other, get_or-set_same}
+use Rattle.std.proofs.Common.{◌≡◌, ℕ, zero, suc, ◌<◌, Bool, true, false, eqb, ltb, List, [], ◌∷◌, length, get_or, Some, None, Option, sym, refl, ap, ◌∙◌, subst, arith, length-set, get_or-set_other, get_or-set_same}
 use Rattle.std.proofs.lemmas.Bool.{cond_both}
 use Rattle.code_check.specs.Windows.{words_from}
 use Rattle.machine.specs.declared.stops.Stop.{Stop}
@@ -13,14 +13,13 @@ use Rattle.domain.specs.Confined.{InCode, Pointing, Confined, Fine}
 use Rattle.domain.proofs.Steps.{confined, enters}
 use Rattle.steps.specs.declared.states.State.{State}
 use Rattle.steps.specs.declared.states.State.TheVariants.{Idle, Active, AtHost, Stopped}
-use Rattle.steps.specs.declared.states.Event.{Event}
 use Rattle.steps.specs.declared.states.Event.TheVariants as event
 use Rattle.steps.specs.States.{moved}
 use Rattle.steps.specs.Model.{Domain, Entry, Yard, nobody, at, put, gate_at, mapped}
 use Rattle.steps.specs.Steps.{After, turned, after, chained, told, rest, behind, halted, hosted, returned_to, handed, entered, is_idle, gated, called, done, performed, stepped}
 use Rattle.steps.specs.Whole.{Whole, placed}
 use Rattle.steps.specs.Fence.{current, Kept}
-use Rattle.steps.proofs.Tables.{Same, Sound, put_whole, chain-whole}
+use Rattle.steps.proofs.Tables.{put_whole, chain-whole}
 use Rattle.steps.proofs.Spares.{spare-pointing, spare-confined}
 use Rattle.steps.proofs.Chains.{popped, not-in-rest, stays-lively}
 use Rattle.steps.proofs.Stays.{own-word}

@@ -1,7 +1,6 @@
 -- What a store leaves.
-use Rattle.std.proofs.Common.{◌≡◌, ℕ, zero, suc, ◌+◌, ◌*◌, ◌/◌, ◌%◌, ◌<◌, Bool, true, false, cond, ◌||◌, ltb, ◌≢◌, ◌⊎◌, List, [], ◌∷◌, length, get_or, set, sym, refl, ◌∙◌, inl, inr, ⊎_elim, arith, get_or-set_other}
+use Rattle.std.proofs.Common.{◌≡◌, ℕ, zero, suc, ◌+◌, ◌%◌, ◌<◌, true, ltb, ◌≢◌, List, [], ◌∷◌, length, get_or, set, refl, ◌∙◌, ⊎_elim, arith, get_or-set_other}
 use Rattle.std.proofs.lemmas.Bool.{cond_both, or_cases}
-use Rattle.memory.specs.Bytes.{byte_put, half_put, word_put}
 use Rattle.machine.specs.declared.widths.Datum.{Datum}
 use Rattle.machine.specs.declared.widths.Datum.TheVariants.{U8, U16, U32}
 use Rattle.machine.specs.Widths.{bytes_of, width_of}

@@ -1,9 +1,9 @@
 -- A register that is not dedicated may be written at any time.
-use Rattle.std.proofs.Common.{◌≡◌, ℕ, ◌%◌, ◌^◌, ◌<◌, ◌≤◌, false, ◌⊎◌, List, get_or, sym, ◌∙◌, subst, inl, inr, ⊎_elim, arith}
+use Rattle.std.proofs.Common.{◌≡◌, ℕ, ◌%◌, ◌^◌, ◌<◌, ◌≤◌, false, List, get_or, sym, ◌∙◌, subst, inl, inr, ⊎_elim, arith}
 use Rattle.segment.specs.Guards.{Inside}
 use Rattle.code_check.specs.Registers.{dedicated}
 use Rattle.machine.specs.Registers.{written}
-use Rattle.domain.specs.Confined.{Domain, InCode, Pointing, Held, Confined}
+use Rattle.domain.specs.Confined.{Domain, InCode, Pointing, Confined}
 use Rattle.domain.proofs.Writes.{written-length, written-other, apart}
 
 module _ (d : Domain) (xs : List ℕ) (rd v : ℕ) (e : dedicated rd ≡ false) where

@@ -1,10 +1,10 @@
 -- A byte that a step changes lies in the current domain's segment.
-use Rattle.std.proofs.Common.{◌≡◌, ℕ, ◌+◌, ◌-◌, ◌*◌, ◌/◌, ◌%◌, ◌^◌, ◌<◌, ◌≤◌, min, Bool, true, false, cond, ◌&&◌, eqb, ltb, ◌⊎◌, List, [], ◌∷◌, length, get_or, Some, None, Ok, Err, Option, sym, refl, ap, ◌∙◌, subst, inl, inr, ⊎_elim, arith}
+use Rattle.std.proofs.Common.{◌≡◌, ℕ, ◌+◌, ◌-◌, ◌*◌, ◌/◌, ◌%◌, ◌<◌, ◌≤◌, min, Bool, true, ◌&&◌, eqb, ltb, ◌⊎◌, List, [], ◌∷◌, length, get_or, Some, None, Ok, Option, sym, refl, ap, ◌∙◌, subst, inl, inr, ⊎_elim, arith}
 use Rattle.std.proofs.lemmas.Bool.{cond_both, cases_lt, cases_eq}
 use Rattle.std.proofs.lemmas.Bool.Decides.{nat_tests}
 use Rattle.rv32i.specs.declared.instructions.Instruction.{Instruction}
 use Rattle.rv32i.specs.Decoded.{decoded}
-use Rattle.segment.specs.Guards.{Row, Inside, Near, apart, Guards}
+use Rattle.segment.specs.Guards.{Row, Inside, Near, apart}
 use Rattle.segment.proofs.Bounds.{whole}
 use Rattle.code_check.specs.Rules.{word_at}
 use Rattle.code_check.specs.Windows.{counted}
@@ -17,10 +17,10 @@ use Rattle.machine.specs.Laws.{Aligned}
 use Rattle.machine.specs.Registers.{value_of}
 use Rattle.machine.specs.Executed.{executed}
 use Rattle.machine.proofs.Multiples.{executed-aligned}
-use Rattle.domain.specs.Confined.{InCode, place_of, Fine}
+use Rattle.domain.specs.Confined.{place_of, Fine}
 use Rattle.domain.proofs.Places.{quad, place-lt, place_is}
 use Rattle.domain.proofs.Steps.{confined}
-use Rattle.steps.specs.Model.{Domain, Entry, Yard, nobody, at, gate_at, mapped}
+use Rattle.steps.specs.Model.{Entry, Yard, at, gate_at, mapped}
 use Rattle.steps.specs.Steps.{After, found, fetched, rest, is_idle, returned_to, gated, called, done, performed, stepped, put_datum}
 use Rattle.steps.specs.Whole.{Whole, placed}
 use Rattle.steps.specs.Fence.{current, Stays, Executes}

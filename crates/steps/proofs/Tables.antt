@@ -1,11 +1,11 @@
 -- A yard with one domain changed, or another chain, is whole again.
-use Rattle.std.proofs.Common.{◌≡◌, ℕ, zero, suc, ◌+◌, ◌<◌, ◌≤◌, Bool, true, false, ◌⊎◌, List, [], ◌∷◌, length, get_or, set, Some, sym, refl, ap, ◌∙◌, subst, inl, inr, ⊎_elim, arith, length-set, get_or-set_other, get_or-set_same}
+use Rattle.std.proofs.Common.{◌≡◌, ℕ, ◌<◌, ◌≤◌, Bool, List, length, get_or, sym, ap, ◌∙◌, subst, ⊎_elim, length-set, get_or-set_other, get_or-set_same}
 use Rattle.std.proofs.lemmas.Bool.{cases_eq}
 use Rattle.segment.specs.Guards.{Row, apart, end}
 use Rattle.code_check.specs.Windows.{words_from, Framed}
 use Rattle.domain.specs.Confined.{Domain as Placed, Admitted, InCode, Pointing, Confined}
 use Rattle.steps.specs.declared.states.State.TheVariants.{Idle}
-use Rattle.steps.specs.Model.{Domain, Entry, Yard, nobody, at, put, gate_at}
+use Rattle.steps.specs.Model.{Domain, Yard, nobody, at, put}
 use Rattle.steps.specs.Steps.{chained}
 use Rattle.steps.specs.Whole.{Whole, placed}
 

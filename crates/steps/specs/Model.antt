@@ -8,7 +8,7 @@
 --   put y c d         the yard with that domain changed
 --   gate_at y g        the entry of the gate g, if it has one
 --   mapped ds a       a is the address of a byte of some domain's segment
-use Rattle.std.specs.Prelude.{ℕ, Bool, true, false, ◌||◌, List, [], ◌∷◌, replicate, Some, None, Option, slice_index_or, slice_set}
+use Rattle.std.specs.Prelude.{ℕ, Bool, false, ◌||◌, List, [], ◌∷◌, replicate, None, Option, slice_index_or, slice_set}
 use Rattle.segment.specs.Guards.{Row, inside}
 use Rattle.steps.specs.declared.states.State.{State}
 use Rattle.steps.specs.declared.states.State.TheVariants.{Idle}

@@ -5,12 +5,12 @@
 --                    one that is idle has its pointers in their blocks; the chain is of its domains, none idle
 --                    and none twice; the entries of gates lie in
 --                    their windows
-use Rattle.std.specs.Prelude.{◌≡◌, ℕ, ◌<◌, ◌≤◌, true, List, length, Some, ◌≢◌, slice_index}
+use Rattle.std.specs.Prelude.{◌≡◌, ℕ, ◌<◌, ◌≤◌, true, length, Some, ◌≢◌, slice_index}
 use Rattle.segment.specs.Guards.{apart, end}
 use Rattle.code_check.specs.Windows.{words_from, Framed}
 use Rattle.domain.specs.Confined.{Domain as Placed, Admitted, InCode, Pointing, Confined}
 use Rattle.steps.specs.declared.states.State.TheVariants.{Idle}
-use Rattle.steps.specs.Model.{Domain, Entry, Yard, at, gate_at}
+use Rattle.steps.specs.Model.{Entry, Yard, at, gate_at}
 
 abbrev pub placed : Yard → ℕ → Placed
 placed y c = record { words = words_from y.store (at y c).base (at y c).m; base = (at y c).base; m = (at y c).m; segment = (at y c).segment }

@@ -1,8 +1,8 @@
 -- A chain has room for a domain that is idle.
-use Rattle.std.proofs.Common.{◌≡◌, ℕ, zero, suc, ◌<◌, ◌≤◌, Bool, true, false, cond, eqb, ◌⊎◌, List, ◌∷◌, length, get_or, sym, refl, ap, ◌∙◌, subst, inl, inr, ⊎_elim, arith}
+use Rattle.std.proofs.Common.{◌≡◌, ℕ, zero, suc, ◌<◌, ◌≤◌, Bool, true, false, cond, eqb, ◌∷◌, length, get_or, sym, refl, ap, ◌∙◌, subst, ⊎_elim, arith}
 use Rattle.std.proofs.lemmas.Bool.{cond-true, cond-false, eq-eqb, ne_eqb, cases_eq}
 use Rattle.yard_steps.specs.declared.states.State.{State}
-use Rattle.yard_steps.specs.declared.states.State.TheVariants.{Idle, Active}
+use Rattle.yard_steps.specs.declared.states.State.TheVariants.{Active}
 use Rattle.yard_steps.specs.States.{is_idle}
 use Rattle.yard_steps.specs.Model.{Yard, at, current}
 use Rattle.yard_steps.specs.Whole.{Whole}

@@ -1,5 +1,5 @@
 -- A table, read and changed in one row.
-use Rattle.std.proofs.Common.{◌≡◌, ℕ, ◌<◌, List, map, length, get_or, set, Some, None, Option, sym, ap, ◌∙◌}
+use Rattle.std.proofs.Common.{◌≡◌, ℕ, ◌<◌, List, map, length, get_or, set, None, Option, sym, ap, ◌∙◌}
 use lib.Seq.{map-set}
 use Rattle.std.proofs.lemmas.List.{get_or-map}
 use Rattle.yard_steps.specs.Model.{Domain as DomainModel, nobody}

@@ -1,13 +1,13 @@
 -- Ways through a step.
-use Rattle.std.proofs.Common.{◌≡◌, ℕ, Bool, false, List, [], ◌∷◌, Some, None, Err, Option, Result, sym, refl, ap, ◌∙◌, arith}
+use Rattle.std.proofs.Common.{◌≡◌, ℕ, Bool, false, List, [], ◌∷◌, Some, None, Err, Result, ap, ◌∙◌, arith}
 use Rattle.machine.specs.Registers.{written}
 use Rattle.yard_steps.specs.declared.reports.Ending.{Ending}
 use Rattle.yard_steps.specs.declared.reports.Reason.TheVariants.{Finished}
 use Rattle.yard_steps.specs.declared.states.Event.TheVariants.{Return}
 use Rattle.rv32i.specs.declared.instructions.Instruction.{Instruction}
 use Rattle.machine.specs.declared.stops.Stop.{Stop}
-use Rattle.yard_steps.specs.Model.{Domain, Yard, at, put, chained, current}
-use Rattle.yard_steps.specs.Steps.{After, turned, after, fetched, rest, halted, behind, ending, returned_to, performed, stepped}
+use Rattle.yard_steps.specs.Model.{Yard, at, put, chained, current}
+use Rattle.yard_steps.specs.Steps.{turned, after, fetched, rest, halted, behind, ending, returned_to, performed, stepped}
 use Rattle.yard.specs.Shapes.{next_in}
 use Rattle.yard.specs.Views.{afterwards}
 

@@ -1,12 +1,10 @@
 -- The words of a store, decoded once.
-use Rattle.std.proofs.Common.{◌≡◌, ℕ, ◌/◌, ◌%◌, ◌<◌, ◌≤◌, min, Bool, true, false, cond, ◌&&◌, eqb, ltb, List, map, length, get_or, take, Ok, Err, sym, refl, ap, ◌∙◌, subst, arith, length-take}
+use Rattle.std.proofs.Common.{◌≡◌, ℕ, ◌/◌, ◌%◌, ◌<◌, ◌≤◌, true, false, ◌&&◌, eqb, ltb, List, map, length, get_or, take, Err, sym, ap, ◌∙◌, arith, length-take}
 use Rattle.std.proofs.lemmas.List.{get_or-map, length-map, get_or-take}
 use Rattle.std.proofs.lemmas.Bool.{cond-true, cond-false}
 use Rattle.std.proofs.lemmas.Bool.Decides.{nat_tests}
-use Rattle.rv32i.specs.declared.causes.Cause.{Cause}
-use Rattle.rv32i.specs.declared.instructions.Instruction.{Instruction}
 use Rattle.rv32i.specs.Decoded.{Decoding, decoded}
-use Rattle.machine.specs.declared.stops.Stop.TheVariants.{Fetch, Illegal}
+use Rattle.machine.specs.declared.stops.Stop.TheVariants.{Fetch}
 use Rattle.code_check.specs.Windows.{counted}
 use Rattle.yard_steps.specs.Steps.{found, fetched}
 

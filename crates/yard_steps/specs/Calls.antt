@@ -14,7 +14,7 @@
 --   replied y v               reply: the waiting domain gets v in x10 and goes on
 --   cut_off y                  cut: every active domain stops
 --   register_of y d n          register: what stands in the register n of the domain d
-use Rattle.std.specs.Prelude.{ℕ, ◌+◌, ◌%◌, ◌^◌, Bool, true, false, cond, not, ◌&&◌, List, [], ◌∷◌, map, length, is_some, Some, None, Ok, Err, Option, Result, ◌==◌, nat_le, nat_lt, slice_set}
+use Rattle.std.specs.Prelude.{ℕ, ◌+◌, ◌%◌, ◌^◌, Bool, false, cond, not, ◌&&◌, List, [], ◌∷◌, map, length, is_some, Some, None, Ok, Err, Option, Result, ◌==◌, nat_le, nat_lt, slice_set}
 use Rattle.refusal.specs.declared.refusals.Refusal.{Refusal}
 use Rattle.refusal.specs.declared.refusals.Refusal.TheVariants.{Crowded, SegmentNear, NoGate, GateTaken, GateEmpty, NoDomain, EntryOffset, NoRegister, HostPending, DomainActive, DomainStopped, NoneActive, MemorySize, NonePending}
 use Rattle.refusal.specs.Told.{told}

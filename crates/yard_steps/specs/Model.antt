@@ -13,7 +13,7 @@
 --   any_below n f      f holds of some number below n
 --   mapped y a        a is the address of a byte of some domain's segment
 --   some_active y      some domain is active
-use Rattle.std.specs.Prelude.{ℕ, zero, suc, Bool, true, false, ◌||◌, List, [], ◌∷◌, replicate, Some, None, Option, slice_index, slice_index_or, slice_set}
+use Rattle.std.specs.Prelude.{ℕ, zero, suc, Bool, false, ◌||◌, List, [], replicate, None, Option, slice_index, slice_index_or, slice_set}
 use Rattle.segment.specs.Guards.{Row, inside}
 use Rattle.yard_steps.specs.declared.states.State.{State}
 use Rattle.yard_steps.specs.declared.states.State.TheVariants.{Idle}

@@ -8,8 +8,7 @@
 --   called A c y bs      what an ECALL of the domain c does
 --   stepped A y bs       one step of the current domain, under the policy A
 --   ran A k n y bs       a run of at most k steps more, after n
-use Rattle.std.specs.Prelude.{ℕ, zero, suc, ◌+◌, ◌*◌, ◌/◌, ◌%◌, ◌^◌, min, Bool, true, false, cond, ◌&&◌, List, [], ◌∷◌, length, Some, None, Ok, Err, Option, Result, ◌==◌, nat_lt, slice_index}
-use Rattle.rv32i.specs.declared.causes.Cause.{Cause}
+use Rattle.std.specs.Prelude.{ℕ, zero, suc, ◌+◌, ◌/◌, ◌%◌, Bool, true, false, cond, ◌&&◌, List, [], ◌∷◌, Some, None, Ok, Err, Option, Result, ◌==◌, nat_lt, slice_index}
 use Rattle.rv32i.specs.declared.operations.LoadOp.{LoadOp}
 use Rattle.rv32i.specs.declared.instructions.Instruction.{Instruction}
 use Rattle.rv32i.specs.Decoded.{Decoding, decoded}

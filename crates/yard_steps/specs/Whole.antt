@@ -8,7 +8,7 @@
 --                    one that is idle has its pointers in their blocks; the chain is of the yard's domains, none of them twice,
 --                    each at work and behind an ECALL if it is a caller, and nobody else is at work; a pending call is that of the
 --                    current domain; the entries of gates lie in their windows
-use Rattle.std.specs.Prelude.{◌≡◌, ℕ, zero, suc, ◌+◌, ◌<◌, ◌≤◌, Bool, true, cond, ◌⊎◌, List, length, Some, Ok, ◌≢◌, slice_index}
+use Rattle.std.specs.Prelude.{◌≡◌, ℕ, zero, suc, ◌+◌, ◌<◌, ◌≤◌, Bool, true, cond, ◌⊎◌, length, Some, Ok, ◌≢◌, slice_index}
 use Rattle.rv32i.specs.declared.instructions.Instruction.TheVariants.{Ecall}
 use Rattle.segment.specs.Guards.{apart, end}
 use Rattle.code_check.specs.Windows.{words_from, Framed}
@@ -16,7 +16,7 @@ use Rattle.machine.specs.Executed.{next_of}
 use Rattle.domain.specs.Confined.{Domain as Placed, Admitted, InCode, Pointing, Confined}
 use Rattle.yard_steps.specs.declared.states.State.{State}
 use Rattle.yard_steps.specs.declared.states.State.TheVariants.{Idle, Active, AtHost}
-use Rattle.yard_steps.specs.Model.{Domain, Entry, Yard, at, gate_at}
+use Rattle.yard_steps.specs.Model.{Entry, Yard, at, gate_at}
 use Rattle.yard_steps.specs.Steps.{fetched}
 
 abbrev pub placed : Yard → ℕ → Placed

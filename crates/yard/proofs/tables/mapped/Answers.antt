@@ -1,4 +1,4 @@
-use Rattle.std.proofs.Common.{◌≡◌, sym, ap, ◌∙◌, arith}
+use Rattle.std.proofs.Common.{sym, ap, ◌∙◌, arith}
 use Rattle.segment.specs.Guards.{inside}
 use Rattle.yard_steps.specs.Model.{Domain}
 use Rattle.yard.specs.Shapes.{row_at}

@@ -1,4 +1,4 @@
-use Rattle.std.proofs.Common.{◌≡◌, not, sym, ap, ◌∙◌, arith}
+use Rattle.std.proofs.Common.{not, sym, ap, ◌∙◌, arith}
 use Rattle.segment.specs.Guards.{Row, apart}
 use Rattle.segment.specs.Rows.{row}
 use Rattle.yard_steps.specs.Model.{Domain}

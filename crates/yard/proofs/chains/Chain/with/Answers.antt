@@ -16,9 +16,9 @@ invariant_of-result c =
     record {
       few = omega arith;
       known =
-        below_more (λ k. get_or (set xs n x) k 0 < 8) n
-            (λ k h. subst (λ v. v < 8) (sym (get_or-set_other xs n k x 0 (λ e. omega arith))) (c.args.self.known k h))
-            (subst (λ v. v < 8) (sym (get_or-set_same xs n x 0 (omega arith))) c.requires.0);
+          below_more (λ k. get_or (set xs n x) k 0 < 8) n
+          (λ k h. subst (λ v. v < 8) (sym (get_or-set_other xs n k x 0 (λ e. omega arith))) (c.args.self.known k h))
+          (subst (λ v. v < 8) (sym (get_or-set_same xs n x 0 (omega arith))) c.requires.0);
       last = last_set xs n x (omega arith);
     }
 

@@ -1,4 +1,4 @@
-use Rattle.std.proofs.Common.{◌≡◌, ◌/◌, ◌<◌, length, vec_items, vec_len, sym, ◌∙◌, arith}
+use Rattle.std.proofs.Common.{vec_items, sym, ◌∙◌, arith}
 use Rattle.yard.proofs.Words.{cells-length, past, within}
 use Rattle.yard.proofs.codes.Code.fetch.Goals as goal
 

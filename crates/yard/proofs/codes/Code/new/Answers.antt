@@ -1,4 +1,4 @@
-use Rattle.std.proofs.Common.{◌≡◌, ℕ, ◌-◌, map, take, ap, ◌∙◌, arith}
+use Rattle.std.proofs.Common.{◌≡◌, ◌-◌, map, take, ap, ◌∙◌, arith}
 use Rattle.rv32i.specs.Decoded.{decoded}
 use Rattle.code_check.specs.Windows.{counted}
 use Rattle.yard.proofs.codes.Code.new.Goals as goal

@@ -1,4 +1,4 @@
-use Rattle.std.proofs.Common.{Option, sym, ap, ◌∙◌}
+use Rattle.std.proofs.Common.{Option, ap, ◌∙◌}
 use Rattle.yard_steps.specs.Model.{Entry}
 use Rattle.yard_steps.specs.Steps.{gated}
 use Rattle.yard.specs.Views.{view}

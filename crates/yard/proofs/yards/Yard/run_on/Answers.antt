@@ -1,5 +1,4 @@
-use Rattle.std.proofs.Common.{◌≡◌, ℕ, ◌-◌, Some, None, Option, sym, ap, ◌∙◌, arith}
-use Rattle.yard_steps.specs.declared.reports.Ending.{Ending}
+use Rattle.std.proofs.Common.{◌≡◌, ◌-◌, ap, ◌∙◌, arith}
 use Rattle.yard_steps.specs.declared.reports.Report.{Report}
 use Rattle.yard_steps.specs.Steps.{ran}
 use Rattle.yard.specs.Yards.{seen, ran_to}

@@ -1,11 +1,10 @@
-use Rattle.std.proofs.Common.{◌≡◌, sym, ap, ◌∙◌, subst}
+use Rattle.std.proofs.Common.{sym, ap, ◌∙◌, subst}
 use mathlib.Core.Logic.{∥∥₁_map, ∥∥₁_elim}
-use Rattle.yard_steps.specs.Model.{Yard}
 use Rattle.yard_steps.specs.Steps.{After}
 use Rattle.yard_steps.specs.Whole.{Whole}
 use Rattle.yard_steps.proofs.Kept.{kept}
 use Rattle.yard_steps.proofs.Outcomes.{outcome}
-use Rattle.yard.specs.Views.{view, Ready}
+use Rattle.yard.specs.Views.{view}
 use Rattle.yard.specs.Yards.{GoesOn}
 use Rattle.yard.proofs.Room.{ready}
 use Rattle.yard.proofs.Props.{ready_prop, goes-prop}
