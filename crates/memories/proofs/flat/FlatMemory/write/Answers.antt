@@ -19,9 +19,9 @@ returns c =
     let xs = c.args.self.now.buffer.now in
     let long = counted-length xs in
     let h : c.args.address < min (length xs) limit = omega (arith, c.counted.ensures.is) in
-    let done = byte-written xs c.put-byte.new.self.buffer.now c.args.address c.args.byte h c.put-byte.ensures.bytes in
+    let done = byte-written xs c.put_byte.new.self.buffer.now c.args.address c.args.byte h c.put_byte.ensures.bytes in
     record {
       is = sym (lt-ltb _ _ (omega arith));
       bytes = done.0;
-      lent = one-loan _ _ _ _ c.put-byte.ensures.lent done.1;
+      lent = one-loan _ _ _ _ c.put_byte.ensures.lent done.1;
     }

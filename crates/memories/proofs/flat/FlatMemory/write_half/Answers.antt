@@ -19,9 +19,9 @@ returns c =
     let xs = c.args.self.now.buffer.now in
     let long = counted-length xs in
     let h : c.args.address + 1 < min (length xs) limit = omega (arith, c.counted.ensures.is) in
-    let done = half-written xs c.put-half.new.self.buffer.now c.args.address c.args.half h c.put-half.ensures.bytes in
+    let done = half-written xs c.put_half.new.self.buffer.now c.args.address c.args.half h c.put_half.ensures.bytes in
     record {
       is = sym (lt-ltb _ _ (omega arith));
       bytes = done.0;
-      lent = one-loan _ _ _ _ c.put-half.ensures.lent done.1;
+      lent = one-loan _ _ _ _ c.put_half.ensures.lent done.1;
     }

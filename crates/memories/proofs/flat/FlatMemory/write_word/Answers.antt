@@ -19,9 +19,9 @@ returns c =
     let xs = c.args.self.now.buffer.now in
     let long = counted-length xs in
     let h : c.args.address + 3 < min (length xs) limit = omega (arith, c.counted.ensures.is) in
-    let done = word-written xs c.put-word.new.self.buffer.now c.args.address c.args.word h c.put-word.ensures.bytes in
+    let done = word-written xs c.put_word.new.self.buffer.now c.args.address c.args.word h c.put_word.ensures.bytes in
     record {
       is = sym (lt-ltb _ _ (omega arith));
       bytes = done.0;
-      lent = one-loan _ _ _ _ c.put-word.ensures.lent done.1;
+      lent = one-loan _ _ _ _ c.put_word.ensures.lent done.1;
     }

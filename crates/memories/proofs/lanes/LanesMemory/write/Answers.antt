@@ -18,8 +18,8 @@ returns-then-i-depth c =
 pub returns : goal.returns
 returns c =
     let m = c.args.self.now in
-    let n = c.put-byte.new.self in
-    let e = c.put-byte.ensures in
+    let n = c.put_byte.new.self in
+    let e = c.put_byte.ensures in
     let long = woven-length m.lane0.now m.lane1.now m.lane2.now m.lane3.now in
     let h : c.args.address / 4 < depth m.lane0.now m.lane1.now m.lane2.now m.lane3.now = omega (arith, c.depth.ensures.is) in
     let done = lanes-written m.lane0.now m.lane1.now m.lane2.now m.lane3.now n.lane0.now n.lane1.now n.lane2.now n.lane3.now m.lane0.ghost_name m.lane1.ghost_name m.lane2.ghost_name m.lane3.ghost_name n.lane0.ghost_name n.lane1.ghost_name n.lane2.ghost_name n.lane3.ghost_name c.args.address c.args.byte h e.lane0 e.lane1 e.lane2 e.lane3 e.lent in
