@@ -1,6 +1,6 @@
 -- A buffer of which only the first places count.
 use Rattle.std.proofs.Common.{◌≡◌, ℕ, ◌+◌, ◌*◌, ◌/◌, ◌%◌, ◌<◌, min, List, [], ◌∷◌, length, get_or, set, Some, None, sym, ap, ◌∙◌, arith, length-take, get_or-take, drop-set-lt}
-use lib.Seq.{take-set-lt}
+use Rattle.std.proofs.Math.Seq.{take-set-lt}
 use Rattle.std.proofs.lemmas.Bool.{cond_below}
 use Rattle.memory.specs.Bytes.{byte_at, half_at, word_at, byte_put, half_put, word_put}
 use Rattle.memory.specs.Loans.{Loan}
