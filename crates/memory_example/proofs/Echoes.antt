@@ -1,6 +1,6 @@
 -- A word that was written is the word that is read.
 use Rattle.std.proofs.Common.{◌≡◌, ℕ, ◌+◌, ◌*◌, ◌/◌, ◌%◌, ◌^◌, ◌<◌, ◌≤◌, cond, ltb, List, length, get_or, set, Some, None, sym, ap, ◌∙◌, ⊎_elim, arith, length-set, get_or-set_other, get_or-set_same}
-use native.Mathlib.Nat.{div-div-eq-div-mul}
+use Rattle.std.proofs.Math.Nat.{div-div-eq-div-mul}
 use Rattle.std.proofs.lemmas.Bool.{cases_lt, cond_below, cond-true, cond-false, lt-ltb, le-ltb}
 use Rattle.memory.specs.Bytes.{word_at, word_put}
 

@@ -7,8 +7,8 @@ pub returns : goal.returns
 returns g c =
     record {
       is =
-          c.read-word.ensures.is ∙ ap (λ l. word_at l c.args.address) c.write-word.ensures.bytes
+          c.read_word.ensures.is ∙ ap (λ l. word_at l c.args.address) c.write_word.ensures.bytes
           ∙ word-echoes (g.M.Memory.bytes c.args.memory.now) c.args.address c.args.word (omega arith);
-      bytes = c.write-word.ensures.bytes;
-      lent = c.write-word.ensures.lent;
+      bytes = c.write_word.ensures.bytes;
+      lent = c.write_word.ensures.lent;
     }

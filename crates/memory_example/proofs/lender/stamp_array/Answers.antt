@@ -4,4 +4,4 @@ use Rattle.memory_example.proofs.lender.stamp_array.Goals as goal
 
 pub returns : goal.returns
 unfolding counted uncounted
-returns c = record { is = c.stamp-slice.ensures.bytes ∙ append-nil _ }
+returns c = record { is = c.stamp_slice.ensures.bytes ∙ append-nil _ }

@@ -3,4 +3,4 @@ use Rattle.memory_example.proofs.lender.stamp_arrays.Goals as goal
 
 pub returns : goal.returns
 unfolding woven
-returns c = c.stamp-four.ensures
+returns c = c.stamp_four.ensures

@@ -6,11 +6,11 @@ use Rattle.memory_example.proofs.lender.stamp_vec.Goals as goal
 
 pub returns : goal.returns
 returns c =
-    let kept = c.stamp-slice.auto.buffer in
-    let long = c.as-mut-slice.ensures.len in
+    let kept = c.stamp_slice.auto.buffer in
+    let long = c.as_mut_slice.ensures.len in
     record {
       bytes =
-          with_items_is c.args.buffer.now c.stamp-slice.new.buffer (omega arith)
-          ∙ c.stamp-slice.ensures.bytes
-          ∙ ap (λ l. stamped (counted l) c.args.address ++ uncounted l) c.as-mut-slice.ensures.value;
+          with_items_is c.args.buffer.now c.stamp_slice.new.buffer (omega arith)
+          ∙ c.stamp_slice.ensures.bytes
+          ∙ ap (λ l. stamped (counted l) c.args.address ++ uncounted l) c.as_mut_slice.ensures.value;
     }
