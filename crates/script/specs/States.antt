@@ -15,8 +15,8 @@ use Rattle.policy.specs.declared.any.AnyPolicy.{AnyPolicy}
 use Rattle.policy.specs.declared.any.AnyPolicy.TheVariants.{Rights, Rings}
 use Rattle.script.specs.declared.commands.Command.{Command}
 use Rattle.script.specs.declared.commands.Command.TheVariants as cmd
-use Rattle.script.specs.declared.memories.Buffers.{Buffers}
-use Rattle.script.specs.declared.memories.Buffers.TheVariants as held
+use Rattle.script.specs.declared.buffers.Buffers.{Buffers}
+use Rattle.script.specs.declared.buffers.Buffers.TheVariants as held
 use Rattle.script.specs.declared.sessions.Session.{Session}
 
 abbrev pub bytes_of : Buffers → List ℕ

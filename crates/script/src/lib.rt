@@ -1,9 +1,9 @@
 // The script language: a command a line, and what each command answers.
 #![tactic(auto)]
 
+mod buffers;
 mod code;
 mod commands;
-mod memories;
 mod reading;
 mod sessions;
 

@@ -4,7 +4,7 @@ ghost use Rattle.script.specs.States.{view, start, after};
 ghost use Rattle.script.specs.Answers.{Answers};
 
 use crate::commands::{Answer, Command};
-use crate::memories::Buffers;
+use crate::buffers::Buffers;
 use code_check::check;
 use policy::Policy;
 use policy::any::AnyPolicy;

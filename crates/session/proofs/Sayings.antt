@@ -8,7 +8,7 @@ use Rattle.yard_steps.specs.Model.{new_yard}
 use Rattle.yard_script.specs.declared.commands.Command.{Command}
 use Rattle.yard_script.specs.declared.commands.Command.TheVariants as cmd
 use Rattle.session.specs.declared.answers.Answer.{Answer}
-use Rattle.session.specs.declared.memories.Buffers.{Buffers}
+use Rattle.session.specs.declared.buffers.Buffers.{Buffers}
 use Rattle.session.specs.Said.{Said, plain}
 use Rattle.session.specs.Performed.{State, under_yard, performed, answers_of}
 use Rattle.session.specs.Views.{state_of, spoken, following}

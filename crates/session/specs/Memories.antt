@@ -8,8 +8,8 @@ use Rattle.std.specs.List.{range_with_len}
 use Rattle.memory.specs.Bytes.{byte_at}
 use Rattle.memories.specs.Layout.{limit, counted, woven}
 use Rattle.memories.specs.declared.lanes.Lanes.{Lanes}
-use Rattle.session.specs.declared.memories.Buffers.{Buffers}
-use Rattle.session.specs.declared.memories.Buffers.TheVariants as held
+use Rattle.session.specs.declared.buffers.Buffers.{Buffers}
+use Rattle.session.specs.declared.buffers.Buffers.TheVariants as held
 
 abbrev pub bytes_of : Buffers → List ℕ
 bytes_of (held.Flat v) = counted (vec_items v)

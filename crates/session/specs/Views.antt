@@ -15,7 +15,7 @@ use Rattle.yard.specs.Yards.{seen}
 use Rattle.yard_script.specs.declared.commands.Command.{Command}
 use Rattle.yard_script.specs.declared.commands.Command.TheVariants as cmd
 use Rattle.session.specs.declared.answers.Answer.{Answer}
-use Rattle.session.specs.declared.memories.Buffers.{Buffers}
+use Rattle.session.specs.declared.buffers.Buffers.{Buffers}
 use Rattle.session.specs.declared.sessions.Session.{Session}
 use Rattle.session.specs.Memories.{bytes_of}
 use Rattle.session.specs.Said.{Said, plain}

@@ -2,7 +2,7 @@
 #![tactic(auto)]
 
 mod answers;
-mod memories;
+mod buffers;
 mod performing;
 mod sessions;
 

@@ -9,7 +9,7 @@ ghost use Rattle.session.specs.Performed.{no_rights, start, answers_of};
 ghost use Rattle.session.specs.Views.{state_of, view, spoken, or_yard, opening, following, Within};
 
 use crate::answers::Answer;
-use crate::memories::Buffers;
+use crate::buffers::Buffers;
 use crate::sessions::Session;
 use policy::any::AnyPolicy;
 use policy::rights::Rights;

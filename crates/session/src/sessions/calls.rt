@@ -11,7 +11,7 @@ ghost use Rattle.session.specs.Views.{state_of, view, Calls, Aside};
 ghost use Rattle.session.specs.Holds.{Vacant, holding, reported};
 
 use crate::answers::Answer;
-use crate::memories::Buffers;
+use crate::buffers::Buffers;
 use crate::sessions::Session;
 use code_check::check;
 use policy::Policy;

@@ -2,7 +2,7 @@ use Rattle.std.proofs.Common.{◌≡◌, ℕ, false, List, [], ◌++◌, vec_ite
 use Rattle.memories.specs.Layout.{counted}
 use Rattle.policy.specs.declared.any.AnyPolicy.{AnyPolicy}
 use Rattle.yard_steps.specs.Model.{new_yard}
-use Rattle.session.specs.declared.memories.Buffers.{Buffers}
+use Rattle.session.specs.declared.buffers.Buffers.{Buffers}
 use Rattle.session.specs.Performed.{State, answers_of}
 use Rattle.session.specs.Views.{view, spoken, opening, following}
 use Rattle.session.proofs.performing.prepare_all.Goals as goal

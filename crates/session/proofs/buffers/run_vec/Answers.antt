@@ -4,7 +4,7 @@ use Rattle.memories.specs.Layout.{counted}
 use Rattle.policy.specs.Choice.{any_allows}
 use Rattle.yard_steps.specs.Calls.{running}
 use Rattle.yard.specs.Yards.{seen, answered_by}
-use Rattle.session.proofs.memories.run_vec.Goals as goal
+use Rattle.session.proofs.buffers.run_vec.Goals as goal
 
 pub returns : goal.returns
 returns c =

@@ -1,8 +1,8 @@
 use Rattle.std.proofs.Common.{◌≡◌, ℕ, List, IfOk, vec_items, ◌∙◌, subst, arith}
 use Rattle.std.proofs.lemmas.List.{with_items_is}
 use Rattle.memories.specs.Layout.{counted}
-use Rattle.session.specs.Memories.{peeked}
-use Rattle.session.proofs.memories.peek_vec.Goals as goal
+use Rattle.script.specs.States.{peeked}
+use Rattle.script.proofs.buffers.peek_vec.Goals as goal
 
 pub returns : goal.returns
 returns c =

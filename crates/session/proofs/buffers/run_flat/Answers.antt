@@ -1,6 +1,6 @@
 use Rattle.std.proofs.Common.{refl}
 use Rattle.memories.proofs.Lending.{flat-lender}
-use Rattle.session.proofs.memories.run_flat.Goals as goal
+use Rattle.session.proofs.buffers.run_flat.Goals as goal
 
 pub returns : goal.returns
 returns c =

@@ -1,6 +1,6 @@
 use Rattle.std.proofs.Common.{refl}
 use Rattle.memories.proofs.Lending.{lanes-lender}
-use Rattle.session.proofs.memories.run_lanes.Goals as goal
+use Rattle.session.proofs.buffers.run_lanes.Goals as goal
 
 pub returns : goal.returns
 returns c =
