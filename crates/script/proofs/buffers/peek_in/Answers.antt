@@ -1,4 +1,4 @@
-use Rattle.std.proofs.Common.{◌≡◌, ◌+◌, sym, ap, ◌∙◌}
+use Rattle.std.proofs.Common.{◌≡◌, ◌+◌, ap, ◌∙◌}
 use Rattle.memory.specs.Bytes.{byte_at}
 use Rattle.script.proofs.Peeks.{none-past, peeked-more}
 use Rattle.script.proofs.buffers.peek_in.Goals as goal
