@@ -1,4 +1,4 @@
-use Rattle.std.proofs.Common.{◌≡◌, ◌+◌, sym, ap, ◌∙◌}
+use Rattle.std.proofs.Common.{◌≡◌, ◌+◌, ap, ◌∙◌}
 use Rattle.memory.specs.Bytes.{byte_at}
 use Rattle.session.proofs.Peeks.{none-past, peeked-more}
 use Rattle.session.proofs.buffers.peek_in.Goals as goal

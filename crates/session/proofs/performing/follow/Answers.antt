@@ -15,13 +15,13 @@ returns-in-Yard c =
           c.renew.ensures.is;
     }
 
-pub returns-in_ok-answer : goal.returns-in_ok-answer
-returns-in_ok-answer c =
+pub returns-in_ok-answer-in_default : goal.returns-in_ok-answer-in_default
+returns-in_ok-answer-in_default c =
     let ws = c.args.store.now in
-    let e = c.in_ok-answer.ensures.is true in
+    let e = c.in_ok-answer-in_default.ensures.is true in
     let o = c.in_default.other-is in
     record {
       is = IfOk-weaker c.note.result _ _
-          (λ _ h. said_more (view c.args.session.now ws true) (view c.answer.new.self ws true) (option_map plain c.in_ok-answer.answer) c.args.command.now (spoken (vec_items c.args.answers.now)) (spoken (vec_items c.note.new.answers)) e h)
+          (λ _ h. said_more (view c.args.session.now ws true) (view c.answer.new.self ws true) (option_map plain c.in_ok-answer-in_default.answer) c.args.command.now (spoken (vec_items c.args.answers.now)) (spoken (vec_items c.note.new.answers)) e h)
           c.note.ensures.is;
     }

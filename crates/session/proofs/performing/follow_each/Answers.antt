@@ -1,5 +1,4 @@
-use Rattle.std.proofs.Common.{true, ◌++◌, vec_items, sym, ◌∙◌, append-nil}
-use Rattle.session.specs.Performed.{answers_of}
+use Rattle.std.proofs.Common.{true, vec_items, sym, ◌∙◌, append-nil}
 use Rattle.session.specs.Views.{view, spoken}
 use Rattle.session.proofs.Sayings.{loop-more, loop-end}
 use Rattle.session.proofs.performing.follow_each.Goals as goal

@@ -1,7 +1,5 @@
-use Rattle.std.proofs.Common.{ℕ, true, List, ◌++◌, vec_items, ap, ◌∙◌}
-use Rattle.yard_script.specs.declared.commands.Command.{Command}
+use Rattle.std.proofs.Common.{true, ◌++◌, vec_items, ◌∙◌}
 use Rattle.yard_steps.specs.Model.{new_yard}
-use Rattle.session.specs.declared.answers.Answer.{Answer}
 use Rattle.session.specs.Performed.{answers_of}
 use Rattle.session.specs.Views.{state_of, spoken, opening}
 use Rattle.session.proofs.Sayings.{then-under, from_place}

@@ -8,17 +8,17 @@ use Rattle.session.proofs.sessions.Session.call.Goals as goal
 pub invariant_of-self-in-Open : goal.invariant_of-self-in-Open
 invariant_of-self-in-Open c =
     let s = c.args.self.now in
-    (opened-held (is_some s.pending) (seen s.yard) (seen c.open.new.self) s.held c.in-Open.gate c.in-Open.domain c.in-Open.offset _ c.open.ensures.is, tt)
+    record { held = opened-held (is_some s.pending) (seen s.yard) (seen c.open.new.self) s.held c.in-Open.gate c.in-Open.domain c.in-Open.offset _ c.open.ensures.is }
 
 pub invariant_of-self-in-Call : goal.invariant_of-self-in-Call
 invariant_of-self-in-Call c =
     let s = c.args.self.now in
-    (called-held (is_some s.pending) (seen s.yard) (seen c.call.new.self) s.held c.in-Call.gate c.in-Call.values _ c.call.ensures.is, tt)
+    record { held = called-held (is_some s.pending) (seen s.yard) (seen c.call.new.self) s.held c.in-Call.gate c.in-Call.values _ c.call.ensures.is }
 
 pub invariant_of-self-in-Cut : goal.invariant_of-self-in-Cut
 invariant_of-self-in-Cut c =
     let s = c.args.self.now in
-    (cut-held (is_some s.pending) (seen s.yard) (seen c.cut.new.self) s.held _ c.cut.ensures.is, tt)
+    record { held = cut-held (is_some s.pending) (seen s.yard) (seen c.cut.new.self) s.held _ c.cut.ensures.is }
 
 pub returns-in-Run : goal.returns-in-Run
 returns-in-Run c = record {

@@ -9,10 +9,9 @@ use Rattle.session.proofs.sessions.Session.run.Goals as goal
 pub invariant_of-self : goal.invariant_of-self
 invariant_of-self c =
     let s = c.args.self.now in
-    let o = c.run-outcome.result in (
-      c.hold.ensures.held
+    let o = c.run-outcome.result in record {
+      held = c.hold.ensures.held
           ∙ ap (λ b. holding b o) s.held
           ∙ run-held (any_allows s.policy) c.args.budget (seen s.yard) (seen c.run-outcome.new.yard) (bytes_of s.memory) (bytes_of c.run-outcome.new.self) o
-          c.run-outcome.ensures.is c.run-outcome.ensures.token,
-      tt,
-    )
+          c.run-outcome.ensures.is c.run-outcome.ensures.token;
+    }
