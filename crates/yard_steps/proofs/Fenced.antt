@@ -1,6 +1,6 @@
 -- Every step of a run is fenced.
 use Rattle.std.proofs.Common.{◌≡◌, ℕ, zero, suc, ◌<◌, Bool, false, List, length, Some, None, Option, refl, ap, ◌∙◌}
-use Rattle.std.specs.List.{AllByRecursion as All}
+use Rattle.std.specs.List.{AllByRecursion}
 use Rattle.rv32i.specs.Decoded.{decoded}
 use Rattle.refusal.specs.declared.refusals.Refusal.{Refusal}
 use Rattle.domain.proofs.Steps.{confined}
@@ -14,15 +14,15 @@ use Rattle.yard_steps.proofs.Words.{own-place}
 use Rattle.yard_steps.proofs.Outcomes.{outcome}
 use Rattle.yard_steps.proofs.Runs.{runnable}
 
-going : (P : Moment → Type 0) (o : Option Ending) (ms : List Moment) → (o ≡ None → All P ms) → All P (going_on o ms)
+going : (P : Moment → Type 0) (o : Option Ending) (ms : List Moment) → (o ≡ None → AllByRecursion P ms) → AllByRecursion P (going_on o ms)
 going P None ms h = h refl
 going P (Some e) ms h = tt
 
-unless : (P : Moment → Type 0) (o : Option Refusal) (ms : List Moment) → (o ≡ None → All P ms) → All P (unless_refused o ms)
+unless : (P : Moment → Type 0) (o : Option Refusal) (ms : List Moment) → (o ≡ None → AllByRecursion P ms) → AllByRecursion P (unless_refused o ms)
 unless P None ms h = h refl
 unless P (Some r) ms h = tt
 
-all-fenced : (A : ℕ → ℕ → Bool) (k : ℕ) (y : Yard) (bs : List ℕ) → Whole y → 0 < length y.chain → y.pending ≡ false → All (Fenced A) (moments A k y bs)
+all-fenced : (A : ℕ → ℕ → Bool) (k : ℕ) (y : Yard) (bs : List ℕ) → Whole y → 0 < length y.chain → y.pending ≡ false → AllByRecursion (Fenced A) (moments A k y bs)
 all-fenced A zero y bs W some calm = tt
 all-fenced A (suc k) y bs W some calm =
     let c = current y in

@@ -13,7 +13,7 @@
 --   Fence               every run of a whole yard, over every memory and every policy, is fenced
 --   Kept                the yard is whole again after every step
 use Rattle.std.specs.Prelude.{◌≡◌, ℕ, zero, suc, ◌/◌, ◌<◌, Bool, true, false, ◌⊎◌, List, [], ◌∷◌, length, Some, None, Ok, Option, ◌≢◌, slice_index, slice_index_or}
-use Rattle.std.specs.List.{AllByRecursion as All}
+use Rattle.std.specs.List.{AllByRecursion}
 use Rattle.rv32i.specs.declared.instructions.Instruction.{Instruction}
 use Rattle.rv32i.specs.Decoded.{decoded}
 use Rattle.refusal.specs.declared.refusals.Refusal.{Refusal}
@@ -84,7 +84,7 @@ abbrev pub moments_of : (ℕ → ℕ → Bool) → ℕ → Yard → List ℕ →
 moments_of A k y bs = unless_refused (run_refused y bs) (moments A k y bs)
 
 abbrev pub FencedRun : (ℕ → ℕ → Bool) → ℕ → Yard → List ℕ → Type 0
-FencedRun A k y bs = All (Fenced A) (moments_of A k y bs)
+FencedRun A k y bs = AllByRecursion (Fenced A) (moments_of A k y bs)
 
 abbrev pub Fence : Type 0
 Fence = (A : ℕ → ℕ → Bool) (k : ℕ) (y : Yard) (bs : List ℕ) → Whole y → FencedRun A k y bs
