@@ -9,55 +9,55 @@ use Rattle.code_check.specs.Rules.{breaks, rules, word_at}
 use Rattle.code_check.specs.Windows.{windowed}
 use Rattle.code_check.specs.Verdicts.{Verdict, broken_at, reported, passed_at, and_then, verdict, checked}
 use Rattle.code_check.specs.Laws.{Clean, Accepted, First, Lawful, Judged}
-use Rattle.code_check.proofs.Scan.{ok-below, below-ok, stops_at, stopped-at, none-breaks, breaks-none, some-breaks, breaks-some}
+use Rattle.code_check.proofs.Scan.{ok_below, below_ok, stops_at, stopped_at, none_breaks, breaks_none, some_breaks, breaks_some}
 
 -- a rule is known by its number
 rule_of : ℕ → Option Rule
 rule_of n = first (λ r. lib.Dec.eqb n (rule_number r)) rules
 
-rule-of : (r : Rule) → rule_of (rule_number r) ≡ Some r
+rule_of-rule_number : (r : Rule) → rule_of (rule_number r) ≡ Some r
 unfolding rule_of
-rule-of Decodes = refl
-rule-of StoreBase = refl
-rule-of JumpBase = refl
-rule-of Dedicated = refl
-rule-of Paired = refl
-rule-of Target = refl
-rule-of Ending = refl
+rule_of-rule_number Decodes = refl
+rule_of-rule_number StoreBase = refl
+rule_of-rule_number JumpBase = refl
+rule_of-rule_number Dedicated = refl
+rule_of-rule_number Paired = refl
+rule_of-rule_number Target = refl
+rule_of-rule_number Ending = refl
 
-same-rule : (r s : Rule) → rule_number r ≡ rule_number s → r ≡ s
-same-rule r s e = let h : Some r ≡ Some s = sym (rule-of r) ∙ ap rule_of e ∙ rule-of s in cc
+same_rule : (r s : Rule) → rule_number r ≡ rule_number s → r ≡ s
+same_rule r s e = let h : Some r ≡ Some s = sym (rule_of-rule_number r) ∙ ap rule_of e ∙ rule_of-rule_number s in cc
 
-reported-ok : (p : ℕ) (d : Decoding) (o : Option Rule) → reported p d o ≡ Ok tt → o ≡ None
-reported-ok p d None e = refl
-reported-ok p d (Some r) e = let z : ◌≡◌ {A = ℕ} 0 1 = cc in absurd (omega arith)
+reported_ok : (p : ℕ) (d : Decoding) (o : Option Rule) → reported p d o ≡ Ok tt → o ≡ None
+reported_ok p d None e = refl
+reported_ok p d (Some r) e = let z : ◌≡◌ {A = ℕ} 0 1 = cc in absurd (omega arith)
 
-reported-err : (p q : ℕ) (d f : Decoding) (o : Option Rule) (r : Rule) → reported p d o ≡ Err (broken_at q f r) → (p ≡ q) × (o ≡ Some r)
-reported-err p q d f None r e = let z : ◌≡◌ {A = ℕ} 0 1 = cc in absurd (omega arith)
-reported-err p q d f (Some s) r e = (cc, ap (λ x. Some x) (same-rule s r (cc)))
+reported_err : (p q : ℕ) (d f : Decoding) (o : Option Rule) (r : Rule) → reported p d o ≡ Err (broken_at q f r) → (p ≡ q) × (o ≡ Some r)
+reported_err p q d f None r e = let z : ◌≡◌ {A = ℕ} 0 1 = cc in absurd (omega arith)
+reported_err p q d f (Some s) r e = (cc, ap (λ x. Some x) (same_rule s r (cc)))
 
 module _ (ws : List ℕ) where
   abbrev lowest : ℕ → Option Rule
   lowest p = first (λ r. breaks r ws p) rules
 
   clean_at : (p : ℕ) → passed_at ws p ≡ Ok tt → Clean ws p
-  clean_at p e = none-breaks (λ r. breaks r ws p) (reported-ok p (word_at ws p) (lowest p) e)
+  clean_at p e = none_breaks (λ r. breaks r ws p) (reported_ok p (word_at ws p) (lowest p) e)
 
-  at-clean : (p : ℕ) → Clean ws p → passed_at ws p ≡ Ok tt
-  at-clean p h = ap (reported p (word_at ws p)) (breaks-none (λ r. breaks r ws p) h)
+  at_clean : (p : ℕ) → Clean ws p → passed_at ws p ≡ Ok tt
+  at_clean p h = ap (reported p (word_at ws p)) (breaks_none (λ r. breaks r ws p) h)
 
-  pub accepted-verdict : Accepted ws → verdict ws ≡ Ok tt
-  accepted-verdict h = below-ok (passed_at ws) (length ws) (λ p lt. at-clean p (h p lt))
+  pub accepted_verdict : Accepted ws → verdict ws ≡ Ok tt
+  accepted_verdict h = below_ok (passed_at ws) (length ws) (λ p lt. at_clean p (h p lt))
 
-  pub verdict-accepted : verdict ws ≡ Ok tt → Accepted ws
-  verdict-accepted e p lt = clean_at p (ok-below (passed_at ws) (length ws) e p lt)
+  pub verdict_accepted : verdict ws ≡ Ok tt → Accepted ws
+  verdict_accepted e p lt = clean_at p (ok_below (passed_at ws) (length ws) e p lt)
 
-  first-from : (p : ℕ) (r : Rule) → verdict ws ≡ Err (broken_at p (word_at ws p) r) → First ws p r
-  first-from p r e =
-      let t = stopped-at (passed_at ws) (length ws) _ e in
-      let h = reported-err t.0 p (word_at ws t.0) (word_at ws p) (lowest t.0) r t.2 in
+  first_from : (p : ℕ) (r : Rule) → verdict ws ≡ Err (broken_at p (word_at ws p) r) → First ws p r
+  first_from p r e =
+      let t = stopped_at (passed_at ws) (length ws) _ e in
+      let h = reported_err t.0 p (word_at ws t.0) (word_at ws p) (lowest t.0) r t.2 in
       let here : lowest p ≡ Some r = subst (λ q. lowest q ≡ Some r) h.0 h.1 in
-      let low = some-breaks (λ s. breaks s ws p) r here in
+      let low = some_breaks (λ s. breaks s ws p) r here in
       record {
         within = subst (λ q. q < length ws) h.0 t.1;
         broken = low.0;
@@ -67,14 +67,14 @@ module _ (ws : List ℕ) where
 
   from_first : (p : ℕ) (r : Rule) → First ws p r → verdict ws ≡ Err (broken_at p (word_at ws p) r)
   from_first p r h =
-      let low = breaks-some (λ s. breaks s ws p) r h.broken h.lowest in
-      stops_at (passed_at ws) (length ws) p _ h.within (below-ok (passed_at ws) p (λ q lt. at-clean q (h.earlier q lt))) (ap (reported p (word_at ws p)) low)
+      let low = breaks_some (λ s. breaks s ws p) r h.broken h.lowest in
+      stops_at (passed_at ws) (length ws) p _ h.within (below_ok (passed_at ws) p (λ q lt. at_clean q (h.earlier q lt))) (ap (reported p (word_at ws p)) low)
 
   lawful : Lawful ws (verdict ws)
-  lawful = record { accepts = verdict-accepted; accepted = accepted-verdict; refuses = first-from; refused = from_first }
+  lawful = record { accepts = verdict_accepted; accepted = accepted_verdict; refuses = first_from; refused = from_first }
 
-pub checked-at : (s : List ℕ) (b m : ℕ) (v : Verdict) → v ≡ checked s b m → (ws : List ℕ) → windowed s b m ≡ Ok ws → v ≡ verdict ws
-checked-at s b m v e ws w = e ∙ ap (λ o. and_then o verdict) w
+pub checked_at : (s : List ℕ) (b m : ℕ) (v : Verdict) → v ≡ checked s b m → (ws : List ℕ) → windowed s b m ≡ Ok ws → v ≡ verdict ws
+checked_at s b m v e ws w = e ∙ ap (λ o. and_then o verdict) w
 
 pub judged : (s : List ℕ) (b m : ℕ) (v : Verdict) → v ≡ checked s b m → Judged s b m v
-judged s b m v e ws w = subst (Lawful ws) (sym (checked-at s b m v e ws w)) (lawful ws)
+judged s b m v e ws w = subst (Lawful ws) (sym (checked_at s b m v e ws w)) (lawful ws)

@@ -2,7 +2,7 @@
 use Rattle.std.proofs.Common.{◌≡◌, ℕ, suc, ◌+◌, ◌-◌, ◌*◌, ◌/◌, ◌%◌, ◌^◌, ◌<◌, length, ℤ, pos, negsuc, ◌+ℤ◌, sym, ap, ◌∙◌, subst, arith}
 use Rattle.std.proofs.lemmas.Int.{ints}
 use Rattle.segment.specs.Guards.{Inside, Near}
-use Rattle.segment.proofs.Blocks.{base-quad}
+use Rattle.segment.proofs.Blocks.{base_quad}
 use Rattle.machine.specs.Arithmetic.{plus}
 use Rattle.machine.specs.Executed.{next_of, even}
 use Rattle.domain.specs.Confined.{Domain, Admitted, InCode, place_of}
@@ -19,10 +19,10 @@ over b p t (negsuc k) l h e = let f : 4 * p ≡ 4 * t + suc k = omega (arith, in
 
 module _ (d : Domain) (ok : Admitted d) where
   pub quad : d.base % 4 ≡ 0
-  quad = base-quad d.base d.m (let l = ok.low in omega arith) ok.aligned
+  quad = base_quad d.base d.m (let l = ok.low in omega arith) ok.aligned
 
-  pub place-lt : (a : ℕ) → InCode d a → place_of d a < length d.words
-  place-lt a h = let w = ok.whole in let l = h.1 in omega arith
+  pub place_lt : (a : ℕ) → InCode d a → place_of d a < length d.words
+  place_lt a h = let w = ok.whole in let l = h.1 in omega arith
 
   pub place_is : (a : ℕ) → InCode d a → a ≡ d.base + 4 * place_of d a
   place_is a h = let q = quad in let e = h.2 in let l = h.0 in omega arith
@@ -30,20 +30,20 @@ module _ (d : Domain) (ok : Admitted d) where
   pub word_in : (t : ℕ) → t < length d.words → InCode d (d.base + 4 * t)
   word_in t h = let w = ok.whole in let q = quad in (omega arith, omega arith, omega arith)
 
-  pub next-is : (a : ℕ) → InCode d a → next_of a ≡ d.base + 4 * (place_of d a + 1)
-  next-is a h = let e = place_is a h in let c = ok.counts in let l = h.1 in omega arith
+  pub next_is : (a : ℕ) → InCode d a → next_of a ≡ d.base + 4 * (place_of d a + 1)
+  next_is a h = let e = place_is a h in let c = ok.counts in let l = h.1 in omega arith
 
-  pub next-in : (a : ℕ) → InCode d a → (place_of d a + 1 ≡ length d.words → ⊥) → InCode d (next_of a)
-  next-in a h n = let l = place-lt a h in subst (InCode d) (sym (next-is a h)) (word_in (place_of d a + 1) (omega (arith, n)))
+  pub next_in : (a : ℕ) → InCode d a → (place_of d a + 1 ≡ length d.words → ⊥) → InCode d (next_of a)
+  next_in a h n = let l = place_lt a h in subst (InCode d) (sym (next_is a h)) (word_in (place_of d a + 1) (omega (arith, n)))
 
   pub next_place : (a : ℕ) → InCode d a → place_of d (next_of a) ≡ place_of d a + 1
-  next_place a h = ap (place_of d) (next-is a h) ∙ (let e : (d.base + 4 * (place_of d a + 1) - d.base) / 4 ≡ place_of d a + 1 = omega arith in e)
+  next_place a h = ap (place_of d) (next_is a h) ∙ (let e : (d.base + 4 * (place_of d a + 1) - d.base) / 4 ≡ place_of d a + 1 = omega arith in e)
 
-  pub target-in : (a t : ℕ) (z : ℤ) → InCode d a → t < length d.words → pos (4 * place_of d a) +ℤ z ≡ pos (4 * t) → InCode d (plus a z)
-  target-in a t z h l e =
+  pub target_in : (a t : ℕ) (z : ℤ) → InCode d a → t < length d.words → pos (4 * place_of d a) +ℤ z ≡ pos (4 * t) → InCode d (plus a z)
+  target_in a t z h l e =
       let w = ok.whole in
       let c = ok.counts in
-      let p = place-lt a h in
+      let p = place_lt a h in
       let is : plus a z ≡ d.base + 4 * t = ap (λ x. plus x z) (place_is a h) ∙ over d.base (place_of d a) t z (omega arith) (omega arith) e in
       subst (InCode d) (sym is) (word_in t l)
 

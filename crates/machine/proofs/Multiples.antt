@@ -20,32 +20,32 @@ tested : (b : Bool) (x y : Effect) → (b ≡ true → Aligned x) → Aligned y 
 tested true x y f h = f refl
 tested false x y f h = h
 
-linked-aligned : (rd n t : ℕ) → Aligned (linked rd n t)
-linked-aligned rd n t = tested (eqb (t % 4) 0) _ _ (λ h. eqb-true (t % 4) 0 h) tt
+linked_aligned : (rd n t : ℕ) → Aligned (linked rd n t)
+linked_aligned rd n t = tested (eqb (t % 4) 0) _ _ (λ h. eqb-true (t % 4) 0 h) tt
 
-branched-aligned : (b : Bool) (t : ℕ) → Aligned (branched b t)
-branched-aligned true t = tested (eqb (t % 4) 0) _ _ (λ h. eqb-true (t % 4) 0 h) tt
-branched-aligned false t = tt
+branched_aligned : (b : Bool) (t : ℕ) → Aligned (branched b t)
+branched_aligned true t = tested (eqb (t % 4) 0) _ _ (λ h. eqb-true (t % 4) 0 h) tt
+branched_aligned false t = tt
 
-loads-aligned : (op : LoadOp) (rd a : ℕ) → Aligned (loads op rd a)
-loads-aligned op rd a = tested (eqb (a % bytes_of (load_width op)) 0) _ _ (λ h. eqb-true (a % bytes_of (load_width op)) 0 h) tt
+loads_aligned : (op : LoadOp) (rd a : ℕ) → Aligned (loads op rd a)
+loads_aligned op rd a = tested (eqb (a % bytes_of (load_width op)) 0) _ _ (λ h. eqb-true (a % bytes_of (load_width op)) 0 h) tt
 
-stores-aligned : (op : StoreOp) (a v : ℕ) → Aligned (stores op a v)
-stores-aligned Sb a v = tested (eqb (a % 1) 0) _ _ (λ h. eqb-true (a % 1) 0 h) tt
-stores-aligned Sh a v = tested (eqb (a % 2) 0) _ _ (λ h. eqb-true (a % 2) 0 h) tt
-stores-aligned Sw a v = tested (eqb (a % 4) 0) _ _ (λ h. eqb-true (a % 4) 0 h) tt
+stores_aligned : (op : StoreOp) (a v : ℕ) → Aligned (stores op a v)
+stores_aligned Sb a v = tested (eqb (a % 1) 0) _ _ (λ h. eqb-true (a % 1) 0 h) tt
+stores_aligned Sh a v = tested (eqb (a % 2) 0) _ _ (λ h. eqb-true (a % 2) 0 h) tt
+stores_aligned Sw a v = tested (eqb (a % 4) 0) _ _ (λ h. eqb-true (a % 4) 0 h) tt
 
-pub executed-aligned : (i : Instruction) (xs : List ℕ) (pc : ℕ) → Aligned (executed i xs pc)
-executed-aligned (Lui rd imm) xs pc = tt
-executed-aligned (Auipc rd imm) xs pc = tt
-executed-aligned (Jal rd offset) xs pc = linked-aligned rd (next_of pc) (plus pc offset)
-executed-aligned (Jalr rd rs1 offset) xs pc = linked-aligned rd (next_of pc) (even (plus (value_of xs rs1) offset))
-executed-aligned (Branch op rs1 rs2 offset) xs pc = branched-aligned (is_taken op (value_of xs rs1) (value_of xs rs2)) (plus pc offset)
-executed-aligned (Load op rd rs1 offset) xs pc = loads-aligned op rd (plus (value_of xs rs1) offset)
-executed-aligned (Store op rs1 rs2 offset) xs pc = stores-aligned op (plus (value_of xs rs1) offset) (value_of xs rs2)
-executed-aligned (OpImm op rd rs1 imm) xs pc = tt
-executed-aligned (ShiftImm op rd rs1 shamt) xs pc = tt
-executed-aligned (Op op rd rs1 rs2) xs pc = tt
-executed-aligned Fence xs pc = tt
-executed-aligned Ecall xs pc = tt
-executed-aligned Ebreak xs pc = tt
+pub executed_aligned : (i : Instruction) (xs : List ℕ) (pc : ℕ) → Aligned (executed i xs pc)
+executed_aligned (Lui rd imm) xs pc = tt
+executed_aligned (Auipc rd imm) xs pc = tt
+executed_aligned (Jal rd offset) xs pc = linked_aligned rd (next_of pc) (plus pc offset)
+executed_aligned (Jalr rd rs1 offset) xs pc = linked_aligned rd (next_of pc) (even (plus (value_of xs rs1) offset))
+executed_aligned (Branch op rs1 rs2 offset) xs pc = branched_aligned (is_taken op (value_of xs rs1) (value_of xs rs2)) (plus pc offset)
+executed_aligned (Load op rd rs1 offset) xs pc = loads_aligned op rd (plus (value_of xs rs1) offset)
+executed_aligned (Store op rs1 rs2 offset) xs pc = stores_aligned op (plus (value_of xs rs1) offset) (value_of xs rs2)
+executed_aligned (OpImm op rd rs1 imm) xs pc = tt
+executed_aligned (ShiftImm op rd rs1 shamt) xs pc = tt
+executed_aligned (Op op rd rs1 rs2) xs pc = tt
+executed_aligned Fence xs pc = tt
+executed_aligned Ecall xs pc = tt
+executed_aligned Ebreak xs pc = tt

@@ -8,6 +8,6 @@ pub read_past : (xs : List ℕ) (r : ℕ) → length xs ≡ 32 → (r ≡ 0) ⊎
 read_past xs r n (inl z) = grind (arith, nat_tests)
 read_past xs r n (inr h) = let e : get_or xs r 0 ≡ 0 = get_or_past xs r 0 (omega (arith, h.1)) in grind (arith, nat_tests)
 
-pub written-past : (xs : List ℕ) (rd v : ℕ) → length xs ≡ 32 → (rd ≡ 0) ⊎ ((rd ≡ 0 → ⊥) × (31 < rd)) → xs ≡ written xs rd v
-written-past xs rd v n (inl z) = grind (arith, nat_tests)
-written-past xs rd v n (inr h) = let e : set xs rd v ≡ xs = set_past xs rd v (omega (arith, h.1)) in grind (arith, nat_tests)
+pub written_past : (xs : List ℕ) (rd v : ℕ) → length xs ≡ 32 → (rd ≡ 0) ⊎ ((rd ≡ 0 → ⊥) × (31 < rd)) → xs ≡ written xs rd v
+written_past xs rd v n (inl z) = grind (arith, nat_tests)
+written_past xs rd v n (inr h) = let e : set xs rd v ≡ xs = set_past xs rd v (omega (arith, h.1)) in grind (arith, nat_tests)

@@ -2,7 +2,7 @@
 -- lanes_bytes   the bytes of a memory of four lanes
 -- lanes_lent    what was lent to it
 -- lanes_depth   how many places of each lane count
--- Lanes-lender  the lanes are the same buffers, and hold the bytes bs, with what does not count as it was
+-- LanesLender  the lanes are the same buffers, and hold the bytes bs, with what does not count as it was
 -- Assumes nothing.
 use Rattle.std.specs.Prelude.{◌≡◌, ℕ, List, ◌++◌, drop}
 use Rattle.memory.specs.Loans.{Loan}
@@ -19,7 +19,7 @@ lanes_lent m =
 abbrev pub lanes_depth : Lanes → ℕ
 lanes_depth m = depth m.lane0.now m.lane1.now m.lane2.now m.lane3.now
 
-pub record Lanes-lender (old new : Lanes) (bs : List ℕ) : Type 0 where
+pub record LanesLender (old new : Lanes) (bs : List ℕ) : Type 0 where
   pub name0 : new.lane0.ghost_name ≡ old.lane0.ghost_name
   pub name1 : new.lane1.ghost_name ≡ old.lane1.ghost_name
   pub name2 : new.lane2.ghost_name ≡ old.lane2.ghost_name

@@ -4,9 +4,9 @@ use Rattle.std.proofs.Math.Nat.{div-div-eq-div-mul}
 use Rattle.std.proofs.lemmas.Bool.{cases_lt, cond_below, cond-true, cond-false, lt-ltb, le-ltb}
 use Rattle.memory.specs.Bytes.{word_at, word_put}
 
-four-set : (bs : List ℕ) (a p q r s v : ℕ) → a + 3 < length bs → v ≡ p + q * 256 + r * 65536 + s * 16777216
+four_set : (bs : List ℕ) (a p q r s v : ℕ) → a + 3 < length bs → v ≡ p + q * 256 + r * 65536 + s * 16777216
     → word_at (set (set (set (set bs a p) (a + 1) q) (a + 2) r) (a + 3) s) a ≡ Some v
-four-set bs a p q r s v h is =
+four_set bs a p q r s v h is =
     let s0 = set bs a p in
     let s1 = set s0 (a + 1) q in
     let s2 = set s1 (a + 2) r in
@@ -26,9 +26,9 @@ four-set bs a p q r s v h is =
     let g3 : get_or s3 (a + 3) 0 ≡ s = get_or-set_same s2 (a + 3) s 0 (omega arith) in
     cond-true (ltb (a + 3) (length s3)) _ _ (lt-ltb _ _ (omega arith)) ∙ ap Some (omega arith)
 
-parts-sum : (w : ℕ) → w < 2 ^ 32
+parts_sum : (w : ℕ) → w < 2 ^ 32
     → w ≡ w % 256 + w / 256 % 256 * 256 + w / 65536 % 256 * 65536 + w / 16777216 % 256 * 16777216
-parts-sum w small =
+parts_sum w small =
     let e1 : w / 256 / 256 ≡ w / 65536 = div-div-eq-div-mul w 256 256 in
     let e2 : w / 65536 / 256 ≡ w / 16777216 = div-div-eq-div-mul w 65536 256 in
     let x0 : w ≡ w % 256 + w / 256 * 256 = omega arith in
@@ -37,13 +37,13 @@ parts-sum w small =
     let x3 : w / 16777216 % 256 ≡ w / 16777216 = omega arith in
     omega arith
 
-pub word-echoes : (bs : List ℕ) (a w : ℕ) → w < 2 ^ 32
+pub word_echoes : (bs : List ℕ) (a w : ℕ) → w < 2 ^ 32
     → word_at (word_put bs a w) a ≡ cond (ltb (a + 3) (length bs)) (Some w) None
-word-echoes bs a w small =
+word_echoes bs a w small =
     ⊎_elim
     (λ (h : a + 3 < length bs).
     ap (λ l. word_at l a) (sym (cond_below (a + 3) (length bs) _ bs h))
-    ∙ four-set bs a (w % 256) (w / 256 % 256) (w / 65536 % 256) (w / 16777216 % 256) w h (parts-sum w small)
+    ∙ four_set bs a (w % 256) (w / 256 % 256) (w / 65536 % 256) (w / 16777216 % 256) w h (parts_sum w small)
     ∙ cond_below (a + 3) (length bs) (Some w) None h)
     (λ (h : length bs ≤ a + 3).
     ap (λ l. word_at l a) (cond-false (ltb (a + 3) (length bs)) _ bs (le-ltb _ _ h))

@@ -10,32 +10,32 @@ use Rattle.memory_example.specs.Paged.{shown, turned, laid}
 abbrev place : List Page → ℕ → ℕ
 place ps a = get_or (shown (get_or ps (a / 16) Absent)) (a % 16) 0
 
-pub laid-length : (ps : List Page) → length (laid ps) ≡ 64
+pub laid_length : (ps : List Page) → length (laid ps) ≡ 64
 unfolding laid
-laid-length ps = length-map-range_with_len (place ps) 0 64
+laid_length ps = length-map-range_with_len (place ps) 0 64
 
-pub laid-get : (ps : List Page) (a : ℕ) → a < 64 → get_or (laid ps) a 0 ≡ place ps a
+pub laid_get : (ps : List Page) (a : ℕ) → a < 64 → get_or (laid ps) a 0 ≡ place ps a
 unfolding laid
-laid-get ps a h = get_or-map-range_with_len (place ps) 0 64 a a 0 h (omega arith)
+laid_get ps a h = get_or-map-range_with_len (place ps) 0 64 a a 0 h (omega arith)
 
-pub laid-byte : (ps : List Page) (a : ℕ) → a < 64
+pub laid_byte : (ps : List Page) (a : ℕ) → a < 64
     → Some (get_or (shown (get_or ps (a / 16) Absent)) (a % 16) 0) ≡ byte_at (laid ps) a
-laid-byte ps a h =
-    ap Some (sym (laid-get ps a h)) ∙ cond_below a (length (laid ps)) _ None (omega (arith, laid-length ps))
+laid_byte ps a h =
+    ap Some (sym (laid_get ps a h)) ∙ cond_below a (length (laid ps)) _ None (omega (arith, laid_length ps))
 
-pub new-laid : laid (replicate 4 Absent) ≡ replicate 64 0
+pub new_laid : laid (replicate 4 Absent) ≡ replicate 64 0
 unfolding laid
-new-laid = refl
+new_laid = refl
 
-pub laid-put : (ps : List Page) (a b : ℕ) → a < 64 → length ps ≡ 4 → length (shown (get_or ps (a / 16) Absent)) ≡ 16
+pub laid_put : (ps : List Page) (a b : ℕ) → a < 64 → length ps ≡ 4 → length (shown (get_or ps (a / 16) Absent)) ≡ 16
     → laid (turned ps (a / 16) (a % 16) b) ≡ byte_put (laid ps) a b
 unfolding laid
-laid-put ps a b h four long =
+laid_put ps a b h four long =
     let i = a / 16 in
     let j = a % 16 in
     let old = laid ps in
     let page = Present (set (shown (get_or ps i Absent)) j b) in
-    let size = laid-length ps in
+    let size = laid_length ps in
     let here = get_or-set_same ps i page Absent (omega arith) in
     sym (fill_by_all (place (turned ps i j b)) (set old a b) 64 0 (length-set old a b ∙ size) (λ x below.
     ⊎_elim
@@ -44,7 +44,7 @@ laid-put ps a b h four long =
     ∙ sym (get_or-set_same (shown (get_or ps i Absent)) j b 0 (omega arith))
     ∙ ap (λ p. get_or (shown p) j 0) (sym here) ∙ ap (place (turned ps i j b)) (sym same))
     (λ (other : x ≡ a → ⊥).
-    get_or-set_other old a x b 0 other ∙ laid-get ps x below
+    get_or-set_other old a x b 0 other ∙ laid_get ps x below
     ∙ ⊎_elim
     (λ (e : x / 16 ≡ i).
     ap (λ y. get_or (shown (get_or ps y Absent)) (x % 16) 0) e

@@ -1,7 +1,7 @@
 // What a caller learns of the buffers that it lends to a memory.
 ghost use Rattle.std.specs.Prelude.{◌≡◌, ◌++◌, drop, replicate};
 ghost use Rattle.memories.specs.Layout.{counted, uncounted, depth, woven, column};
-ghost use Rattle.memories.specs.Lending.{lanes_bytes, Lanes-lender as Lender};
+ghost use Rattle.memories.specs.Lending.{lanes_bytes, LanesLender as Lender};
 ghost use Rattle.memory_example.specs.Stamp.{stamped};
 
 use memories::flat::Flat;

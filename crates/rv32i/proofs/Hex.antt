@@ -17,13 +17,13 @@ more_room (suc k) n h =
     let lt : n / 16 < 16 ^ suc k = omega (arith, pow-suc 16 (suc k)) in
     ap (λ ds. cond (ltb n 16) (digit_glyph false n ∷ []) (ds ++ (digit_glyph false (n % 16) ∷ []))) (more_room k (n / 16) lt)
 
-pub hexadecimal-digit : (n : ℕ) → n < 16 → digit_glyph false n ∷ [] ≡ hexadecimal n
+pub hexadecimal_digit : (n : ℕ) → n < 16 → digit_glyph false n ∷ [] ≡ hexadecimal n
 unfolding hexadecimal
-hexadecimal-digit n h = let t = low n h in rw t refl
+hexadecimal_digit n h = let t = low n h in rw t refl
 
-pub hexadecimal-step : (n : ℕ) → 16 ≤ n → n < 2 ^ 32 → hexadecimal (n / 16) ++ (digit_glyph false (n % 16) ∷ []) ≡ hexadecimal n
+pub hexadecimal_step : (n : ℕ) → 16 ≤ n → n < 2 ^ 32 → hexadecimal (n / 16) ++ (digit_glyph false (n % 16) ∷ []) ≡ hexadecimal n
 unfolding hexadecimal
-hexadecimal-step n h lt =
+hexadecimal_step n h lt =
     let t = high n h in
     let small : n / 16 < 16 ^ 7 = omega arith in
     ap (λ ds. ds ++ (digit_glyph false (n % 16) ∷ [])) (sym (more_room 6 (n / 16) small)) ∙ rw t refl

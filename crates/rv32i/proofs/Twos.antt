@@ -4,13 +4,13 @@ use Rattle.std.proofs.lemmas.Bool.Decides.{nat_tests}
 use Rattle.rv32i.specs.Fields.{signed}
 use Rattle.rv32i.specs.Encoded.{twos, short}
 
-pub signed-twos : (n : ℕ) (z : ℤ) → 2 ^ n ≡ 2 * 2 ^ (n - 1) → short n z ≡ true → signed n (twos n z) ≡ z
-signed-twos n (pos k) g h = grind (arith, nat_tests)
-signed-twos n (negsuc k) g h = grind (arith, nat_tests)
+pub signed_twos : (n : ℕ) (z : ℤ) → 2 ^ n ≡ 2 * 2 ^ (n - 1) → short n z ≡ true → signed n (twos n z) ≡ z
+signed_twos n (pos k) g h = grind (arith, nat_tests)
+signed_twos n (negsuc k) g h = grind (arith, nat_tests)
 
-pub twos-signed : (n x : ℕ) → 2 ^ n ≡ 2 * 2 ^ (n - 1) → x < 2 ^ n → (twos n (signed n x) ≡ x) × (short n (signed n x) ≡ true)
-twos-signed n x g h = grind (arith, nat_tests)
+pub twos_signed : (n x : ℕ) → 2 ^ n ≡ 2 * 2 ^ (n - 1) → x < 2 ^ n → (twos n (signed n x) ≡ x) × (short n (signed n x) ≡ true)
+twos_signed n x g h = grind (arith, nat_tests)
 
-pub twos-lt : (n : ℕ) (z : ℤ) → 2 ^ n ≡ 2 * 2 ^ (n - 1) → short n z ≡ true → twos n z < 2 ^ n
-twos-lt n (pos k) g h = grind (arith, nat_tests)
-twos-lt n (negsuc k) g h = grind (arith, nat_tests)
+pub twos_lt : (n : ℕ) (z : ℤ) → 2 ^ n ≡ 2 * 2 ^ (n - 1) → short n z ≡ true → twos n z < 2 ^ n
+twos_lt n (pos k) g h = grind (arith, nat_tests)
+twos_lt n (negsuc k) g h = grind (arith, nat_tests)

@@ -67,35 +67,35 @@ pub whole_r : (w : ℕ) → w < 2 ^ 32 → word_r (opcode_of w) (rd_of w) (funct
 whole_r w h = omega arith
 
 -- the finer pieces by those of format R
-part-31-20 : (w : ℕ) → w < 2 ^ 32 → bits w 31 20 ≡ funct7_of w * 32 + rs2_of w
-part-31-20 w h = omega arith
+part_31_20 : (w : ℕ) → w < 2 ^ 32 → bits w 31 20 ≡ funct7_of w * 32 + rs2_of w
+part_31_20 w h = omega arith
 
-part-31 : (w : ℕ) → bits w 31 31 ≡ funct7_of w / 64
-part-31 w = omega arith
+part_31 : (w : ℕ) → bits w 31 31 ≡ funct7_of w / 64
+part_31 w = omega arith
 
-part-30-25 : (w : ℕ) → bits w 30 25 ≡ funct7_of w % 64
-part-30-25 w = omega arith
+part_30_25 : (w : ℕ) → bits w 30 25 ≡ funct7_of w % 64
+part_30_25 w = omega arith
 
-part-7 : (w : ℕ) → bits w 7 7 ≡ rd_of w % 2
-part-7 w = omega arith
+part_7 : (w : ℕ) → bits w 7 7 ≡ rd_of w % 2
+part_7 w = omega arith
 
-part-11-8 : (w : ℕ) → bits w 11 8 ≡ rd_of w / 2
-part-11-8 w = omega arith
+part_11_8 : (w : ℕ) → bits w 11 8 ≡ rd_of w / 2
+part_11_8 w = omega arith
 
-part-20 : (w : ℕ) → bits w 20 20 ≡ rs2_of w % 2
-part-20 w = omega arith
+part_20 : (w : ℕ) → bits w 20 20 ≡ rs2_of w % 2
+part_20 w = omega arith
 
-part-30-21 : (w : ℕ) → bits w 30 21 ≡ funct7_of w % 64 * 16 + rs2_of w / 2
-part-30-21 w = omega arith
+part_30_21 : (w : ℕ) → bits w 30 21 ≡ funct7_of w % 64 * 16 + rs2_of w / 2
+part_30_21 w = omega arith
 
-part-19-12 : (w : ℕ) → bits w 19 12 ≡ rs1_of w * 8 + funct3_of w
-part-19-12 w = omega arith
+part_19_12 : (w : ℕ) → bits w 19 12 ≡ rs1_of w * 8 + funct3_of w
+part_19_12 w = omega arith
 
 sum_i : (w op rd f3 rs1 rs2 f7 imm : ℕ) → word_r op rd f3 rs1 rs2 f7 ≡ w → imm ≡ f7 * 32 + rs2 → word_i op rd f3 rs1 imm ≡ w
 sum_i w op rd f3 rs1 rs2 f7 imm e f = omega arith
 
 pub whole_i : (w : ℕ) → w < 2 ^ 32 → word_i (opcode_of w) (rd_of w) (funct3_of w) (rs1_of w) (bits w 31 20) ≡ w
-whole_i w h = sum_i w _ _ _ _ _ _ _ (whole_r w h) (part-31-20 w h)
+whole_i w h = sum_i w _ _ _ _ _ _ _ (whole_r w h) (part_31_20 w h)
 
 sum_b : (w op rd f3 rs1 rs2 f7 b31 b25 b8 b7 : ℕ) → word_r op rd f3 rs1 rs2 f7 ≡ w → b31 ≡ f7 / 64 → b25 ≡ f7 % 64 → b8 ≡ rd / 2 → b7 ≡ rd % 2 →
     b31 * 2 ^ 31 + b25 * 2 ^ 25 + rs2 * 2 ^ 20 + rs1 * 2 ^ 15 + f3 * 2 ^ 12 + b8 * 2 ^ 8 + b7 * 2 ^ 7 + op ≡ w
@@ -103,7 +103,7 @@ sum_b w op rd f3 rs1 rs2 f7 b31 b25 b8 b7 e h i j k = omega arith
 
 pub whole_b : (w : ℕ) → w < 2 ^ 32 →
     bits w 31 31 * 2 ^ 31 + bits w 30 25 * 2 ^ 25 + rs2_of w * 2 ^ 20 + rs1_of w * 2 ^ 15 + funct3_of w * 2 ^ 12 + bits w 11 8 * 2 ^ 8 + bits w 7 7 * 2 ^ 7 + opcode_of w ≡ w
-whole_b w h = sum_b w _ _ _ _ _ _ _ _ _ _ (whole_r w h) (part-31 w) (part-30-25 w) (part-11-8 w) (part-7 w)
+whole_b w h = sum_b w _ _ _ _ _ _ _ _ _ _ (whole_r w h) (part_31 w) (part_30_25 w) (part_11_8 w) (part_7 w)
 
 sum_j : (w op rd f3 rs1 rs2 f7 b31 b21 b20 b12 : ℕ) → word_r op rd f3 rs1 rs2 f7 ≡ w → b31 ≡ f7 / 64 → b21 ≡ f7 % 64 * 16 + rs2 / 2 → b20 ≡ rs2 % 2 → b12 ≡ rs1 * 8 + f3 →
     b31 * 2 ^ 31 + b21 * 2 ^ 21 + b20 * 2 ^ 20 + b12 * 2 ^ 12 + rd * 2 ^ 7 + op ≡ w
@@ -111,7 +111,7 @@ sum_j w op rd f3 rs1 rs2 f7 b31 b21 b20 b12 e h i j k = omega arith
 
 pub whole_j : (w : ℕ) → w < 2 ^ 32 →
     bits w 31 31 * 2 ^ 31 + bits w 30 21 * 2 ^ 21 + bits w 20 20 * 2 ^ 20 + bits w 19 12 * 2 ^ 12 + rd_of w * 2 ^ 7 + opcode_of w ≡ w
-whole_j w h = sum_j w _ _ _ _ _ _ _ _ _ _ (whole_r w h) (part-31 w) (part-30-21 w) (part-20 w) (part-19-12 w)
+whole_j w h = sum_j w _ _ _ _ _ _ _ _ _ _ (whole_r w h) (part_31 w) (part_30_21 w) (part_20 w) (part_19_12 w)
 
 pub whole_u : (w : ℕ) → w < 2 ^ 32 → bits w 31 12 * 2 ^ 12 + rd_of w * 2 ^ 7 + opcode_of w ≡ w
 whole_u w h = omega arith

@@ -1,8 +1,8 @@
 -- The word that holds an instruction. Assumes nothing.
 --   twos n z      z in two's complement at n bits
 --   short n z     whether z has such a form
---   wordX ..      the fields of format X put together, from bit 31 down
---   formX ..      that word, where every register and the immediate has its form
+--   word_x ..      the fields of format X put together, from bit 31 down
+--   form_x ..      that word, where every register and the immediate has its form
 --   encoded i     the word of i, if it has one
 use Rattle.std.specs.Prelude.{ℕ, ◌+◌, ◌-◌, ◌*◌, ◌%◌, ◌^◌, Bool, cond, ◌&&◌, ℤ, pos, negsuc, Some, None, Option, ◌==◌, nat_lt}
 use Rattle.rv32i.specs.declared.instructions.Instruction.{Instruction}

@@ -1,7 +1,7 @@
 -- The table of codes: opcode, funct3 and funct7, and the operation that has a code. Assumes nothing.
 --   major7 m        the opcode of a group of instructions, which have the manual's names
 --   x3 op, x7 op    funct3 and funct7 of an operation of the group x
---   xAt f, xAt f g  the operation of the group x that has these codes, if any
+--   x_at f, x_at f g  the operation of the group x that has these codes, if any
 use Rattle.std.specs.Prelude.{ℕ, Bool, cond, ◌&&◌, List, [], ◌∷◌, Some, None, Option, ◌==◌, nat_eq}
 use Rattle.rv32i.specs.declared.operations.BranchOp.{BranchOp}
 use Rattle.rv32i.specs.declared.operations.BranchOp.TheVariants.{Beq, Bne, Blt, Bge, Bltu, Bgeu}

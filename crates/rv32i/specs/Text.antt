@@ -1,6 +1,6 @@
 -- The text of an instruction: the GNU assembler's form, without aliases and with numbered registers. Assumes nothing.
 --   hexadecimal n   n in small hexadecimal digits, with no zeros in front; at most eight digits
---   xName op        the mnemonic of an operation of the group x
+--   x_name op        the mnemonic of an operation of the group x
 --   text_of i        the text of i, such as: addi x1,x0,-1
 use Rattle.std.specs.Prelude.{ℕ, zero, suc, ◌/◌, ◌%◌, ◌^◌, false, cond, List, [], ◌∷◌, ◌++◌, ℤ, codes, decimal, nat_lt}
 use Rattle.std.specs.Fmt.{signed_decimal, digit_glyph}

@@ -6,17 +6,17 @@ use Rattle.std.specs.Result.{result_ok}
 use Rattle.std.specs.Char.{digit_value}
 use Rattle.script.specs.Numbers.{Worth}
 
-is-plus : (c : ℕ) → eqb c 43 ≡ true → c ≡ 43
-is-plus c e = grind (arith, nat_tests)
+is_plus : (c : ℕ) → eqb c 43 ≡ true → c ≡ 43
+is_plus c e = grind (arith, nat_tests)
 
-pub plus-no-numeral : (radix : ℕ) (bs : List ℕ) → radix ≤ 16 → eqb (get_or bs 0 0) 43 ≡ true → IsNumeral radix bs → ⊥
-plus-no-numeral radix [] few e n = omega (arith, n.0)
-plus-no-numeral radix (c ∷ cs) few e n = let p = is-plus c e in let d : digit_value 43 < radix = subst (λ x. digit_value x < radix) p n.1.0 in omega (arith, d)
+pub plus_no_numeral : (radix : ℕ) (bs : List ℕ) → radix ≤ 16 → eqb (get_or bs 0 0) 43 ≡ true → IsNumeral radix bs → ⊥
+plus_no_numeral radix [] few e n = omega (arith, n.0)
+plus_no_numeral radix (c ∷ cs) few e n = let p = is_plus c e in let d : digit_value 43 < radix = subst (λ x. digit_value x < radix) p n.1.0 in omega (arith, d)
 
-pub plain-worth : {E : Type 0} (radix : ℕ) (bs : List ℕ) (r : Result ℕ E) → eqb (get_or bs 0 0) 43 ≡ false → ParsesUnsigned 32 radix bs r → Worth radix bs (result_ok r)
-plain-worth radix bs (Ok x) e h = let k = rw e at h in (k.0.0, k.1)
-plain-worth radix bs (Err y) e h = let k = rw e at h in λ n v. k (n, v)
+pub plain_worth : {E : Type 0} (radix : ℕ) (bs : List ℕ) (r : Result ℕ E) → eqb (get_or bs 0 0) 43 ≡ false → ParsesUnsigned 32 radix bs r → Worth radix bs (result_ok r)
+plain_worth radix bs (Ok x) e h = let k = rw e at h in (k.0.0, k.1)
+plain_worth radix bs (Err y) e h = let k = rw e at h in λ n v. k (n, v)
 
-pub empty-no-plus : (bs : List ℕ) → length bs ≤ 0 → ltb 0 (length bs) ≡ eqb (get_or bs 0 0) 43
-empty-no-plus [] h = refl
-empty-no-plus (c ∷ cs) h = absurd (omega arith)
+pub empty_no_plus : (bs : List ℕ) → length bs ≤ 0 → ltb 0 (length bs) ≡ eqb (get_or bs 0 0) 43
+empty_no_plus [] h = refl
+empty_no_plus (c ∷ cs) h = absurd (omega arith)

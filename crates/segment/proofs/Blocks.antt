@@ -18,8 +18,8 @@ block_of : (y s q : ℕ) → q * s ≤ y → y < q * s + s → y / s ≡ q
 block_of y s q l h = ap (λ n. n / s) (let e : y ≡ q * s + (y - q * s) = omega arith in e) ∙ digits_div q (omega arith)
 
 -- the base of a block, brought into a number below its size or in it, gives a number in it
-pub or-base : (b j x : ℕ) → b % 2 ^ j ≡ 0 → ((b ≤ x) × (x < b + 2 ^ j)) ⊎ (x < 2 ^ j) → (b ≤ bit_or x b) × (bit_or x b < b + 2 ^ j)
-or-base b j x e h =
+pub or_base : (b j x : ℕ) → b % 2 ^ j ≡ 0 → ((b ≤ x) × (x < b + 2 ^ j)) ⊎ (x < 2 ^ j) → (b ≤ bit_or x b) × (bit_or x b < b + 2 ^ j)
+or_base b j x e h =
     let q = b / 2 ^ j in
     let w = multiple b (2 ^ j) e in
     let top : (x / 2 ^ j ≡ q) ⊎ (x / 2 ^ j ≡ 0) =
@@ -28,38 +28,38 @@ or-base b j x e h =
     let t = in_block (bit_or x b) (2 ^ j) q (pow_pos j) (or_shr x b j ∙ both) in
     (omega arith, omega arith)
 
-pub or-quad : (b x : ℕ) → b % 4 ≡ 0 → x % 4 ≡ 0 → bit_or x b % 4 ≡ 0
-or-quad b x e f = or_mod x b 2 ∙ rw (e, f) refl
+pub or_quad : (b x : ℕ) → b % 4 ≡ 0 → x % 4 ≡ 0 → bit_or x b % 4 ≡ 0
+or_quad b x e f = or_mod x b 2 ∙ rw (e, f) refl
 
-pub and-quad : (x c : ℕ) → c % 4 ≡ 0 → bit_and x c % 4 ≡ 0
-and-quad x c e = and_mod x c 2 ∙ rw e (and_zero_r (x % 4))
+pub and_quad : (x c : ℕ) → c % 4 ≡ 0 → bit_and x c % 4 ≡ 0
+and_quad x c e = and_mod x c 2 ∙ rw e (and_zero_r (x % 4))
 
-pub power-quad : (j : ℕ) → 2 ≤ j → 2 ^ j % 4 ≡ 0
-power-quad j h =
+pub power_quad : (j : ℕ) → 2 ≤ j → 2 ^ j % 4 ≡ 0
+power_quad j h =
     let e : j ≡ (j - 2) + 2 = omega arith in
     let f : 2 ^ j ≡ 2 ^ (j - 2) * 4 = ap (λ k. 2 ^ k) e ∙ pow-add 2 (j - 2) 2 in
     omega arith
 
-pub base-quad : (b j : ℕ) → 2 ≤ j → b % 2 ^ j ≡ 0 → b % 4 ≡ 0
-base-quad b j h e =
+pub base_quad : (b j : ℕ) → 2 ≤ j → b % 2 ^ j ≡ 0 → b % 4 ≡ 0
+base_quad b j h e =
     let q = b / 2 ^ j in
-    let f : 2 ^ j ≡ 2 ^ j / 4 * 4 = omega (arith, power-quad j h) in
+    let f : 2 ^ j ≡ 2 ^ j / 4 * 4 = omega (arith, power_quad j h) in
     let g : b ≡ q * (2 ^ j / 4) * 4 = multiple b (2 ^ j) e ∙ ap (λ n. q * n) f ∙ sym (mul_assoc q (2 ^ j / 4) 4) in
     omega arith
 
 -- the mask of a data segment: any number comes out in it
-pub masked-data : (b j x : ℕ) → b % 2 ^ j ≡ 0 → (b ≤ bit_or (bit_and x (2 ^ j - 1)) b) × (bit_or (bit_and x (2 ^ j - 1)) b < b + 2 ^ j)
-masked-data b j x e =
+pub masked_data : (b j x : ℕ) → b % 2 ^ j ≡ 0 → (b ≤ bit_or (bit_and x (2 ^ j - 1)) b) × (bit_or (bit_and x (2 ^ j - 1)) b < b + 2 ^ j)
+masked_data b j x e =
     let l = and_le_r x (2 ^ j - 1) in
     let p = pow_pos j in
-    or-base b j (bit_and x (2 ^ j - 1)) e (inr (omega arith))
+    or_base b j (bit_and x (2 ^ j - 1)) e (inr (omega arith))
 
 -- the mask of a code window: any number comes out at a word of it
-pub masked-code : (b j x : ℕ) → 2 ≤ j → b % 2 ^ j ≡ 0 →
+pub masked_code : (b j x : ℕ) → 2 ≤ j → b % 2 ^ j ≡ 0 →
     (b ≤ bit_or (bit_and x (2 ^ j - 4)) b) × (bit_or (bit_and x (2 ^ j - 4)) b < b + 2 ^ j) × (bit_or (bit_and x (2 ^ j - 4)) b % 4 ≡ 0)
-masked-code b j x h e =
+masked_code b j x h e =
     let l = and_le_r x (2 ^ j - 4) in
     let p = pow_pos j in
-    let q = power-quad j h in
-    let in-it = or-base b j (bit_and x (2 ^ j - 4)) e (inr (omega arith)) in
-    (in-it.0, in-it.1, or-quad b (bit_and x (2 ^ j - 4)) (base-quad b j h e) (and-quad x (2 ^ j - 4) (omega arith)))
+    let q = power_quad j h in
+    let in-it = or_base b j (bit_and x (2 ^ j - 4)) e (inr (omega arith)) in
+    (in-it.0, in-it.1, or_quad b (bit_and x (2 ^ j - 4)) (base_quad b j h e) (and_quad x (2 ^ j - 4) (omega arith)))

@@ -30,11 +30,11 @@ is_host Stopped = false
 is_host Finished = false
 is_host Spent = false
 
-not-host : (r : Reason) → (r ≡ Host → ⊥) → is_host r ≡ false
-not-host Host n = absurd (n refl)
-not-host Stopped n = refl
-not-host Finished n = refl
-not-host Spent n = refl
+not_host : (r : Reason) → (r ≡ Host → ⊥) → is_host r ≡ false
+not_host Host n = absurd (n refl)
+not_host Stopped n = refl
+not_host Finished n = refl
+not_host Spent n = refl
 
 abbrev awaits : Option Ending → Bool
 awaits None = false
@@ -45,70 +45,70 @@ awaits (Some e) = is_host e.reason
 record Awaits (a : After) : Type 0 where
   is : a.yard.pending ≡ awaits a.ended
 
-told-pending : (cs : List ℕ) (a b : ℕ) (y : Yard) → (told cs a b y).pending ≡ y.pending
-told-pending [] a b y = refl
-told-pending (c ∷ cs) a b y = refl
+told_pending : (cs : List ℕ) (a b : ℕ) (y : Yard) → (told cs a b y).pending ≡ y.pending
+told_pending [] a b y = refl
+told_pending (c ∷ cs) a b y = refl
 
-went-awaits : (y : Yard) (bs : List ℕ) → y.pending ≡ false → Awaits (went y bs)
-went-awaits y bs calm = record { is = calm }
+went_awaits : (y : Yard) (bs : List ℕ) → y.pending ≡ false → Awaits (went y bs)
+went_awaits y bs calm = record { is = calm }
 
-hosted-awaits : (c : ℕ) (y : Yard) (bs : List ℕ) → Awaits (hosted c y bs)
-hosted-awaits c y bs = record { is = refl }
+hosted_awaits : (c : ℕ) (y : Yard) (bs : List ℕ) → Awaits (hosted c y bs)
+hosted_awaits c y bs = record { is = refl }
 
-halted-awaits : (s : Stop) (c : ℕ) (y : Yard) (bs : List ℕ) → Awaits (halted s c y bs)
-halted-awaits s c y bs = record { is = told-pending (rest y.chain) 0xFFFFFFFF (stop_row s).0 _ }
+halted_awaits : (s : Stop) (c : ℕ) (y : Yard) (bs : List ℕ) → Awaits (halted s c y bs)
+halted_awaits s c y bs = record { is = told_pending (rest y.chain) 0xFFFFFFFF (stop_row s).0 _ }
 
-returned-awaits : (ks : List ℕ) (c : ℕ) (y : Yard) (bs : List ℕ) → Awaits (returned_to ks c y bs)
-returned-awaits [] c y bs = record { is = refl }
-returned-awaits (k ∷ ks) c y bs = record { is = refl }
+returned_awaits : (ks : List ℕ) (c : ℕ) (y : Yard) (bs : List ℕ) → Awaits (returned_to ks c y bs)
+returned_awaits [] c y bs = record { is = refl }
+returned_awaits (k ∷ ks) c y bs = record { is = refl }
 
-gated-awaits : (A : ℕ → ℕ → Bool) (o : Option Entry) (g c : ℕ) (y : Yard) (bs : List ℕ) → Awaits (gated A o g c y bs)
-gated-awaits A None g c y bs = halted-awaits (NoGate g) c y bs
-gated-awaits A (Some e) g c y bs =
+gated_awaits : (A : ℕ → ℕ → Bool) (o : Option Entry) (g c : ℕ) (y : Yard) (bs : List ℕ) → Awaits (gated A o g c y bs)
+gated_awaits A None g c y bs = halted_awaits (NoGate g) c y bs
+gated_awaits A (Some e) g c y bs =
     cond_both (A c g) _ _ Awaits
-    (λ _. cond_both (is_idle (at y e.domain).state) _ _ Awaits (λ _. went-awaits _ _ refl) (λ _. halted-awaits (Busy g) c y bs))
-    (λ _. halted-awaits (Forbidden g) c y bs)
+    (λ _. cond_both (is_idle (at y e.domain).state) _ _ Awaits (λ _. went_awaits _ _ refl) (λ _. halted_awaits (Busy g) c y bs))
+    (λ _. halted_awaits (Forbidden g) c y bs)
 
-called-awaits : (A : ℕ → ℕ → Bool) (c : ℕ) (y : Yard) (bs : List ℕ) → Awaits (called A c y bs)
-called-awaits A c y bs =
+called_awaits : (A : ℕ → ℕ → Bool) (c : ℕ) (y : Yard) (bs : List ℕ) → Awaits (called A c y bs)
+called_awaits A c y bs =
     let g = value_of (at y c).registers 17 in
-    cond_both (eqb g 0) _ _ Awaits (λ _. hosted-awaits c y bs)
-    (λ _. cond_both (eqb g 31) _ _ Awaits (λ _. returned-awaits (rest y.chain) c y bs)
-    (λ _. cond_both (ltb g 31) _ _ Awaits (λ _. gated-awaits A (gate_at y g) g c y bs) (λ _. halted-awaits (NoGate g) c y bs)))
+    cond_both (eqb g 0) _ _ Awaits (λ _. hosted_awaits c y bs)
+    (λ _. cond_both (eqb g 31) _ _ Awaits (λ _. returned_awaits (rest y.chain) c y bs)
+    (λ _. cond_both (ltb g 31) _ _ Awaits (λ _. gated_awaits A (gate_at y g) g c y bs) (λ _. halted_awaits (NoGate g) c y bs)))
 
-done-awaits : (A : ℕ → ℕ → Bool) (c : ℕ) (e : Effect) (y : Yard) (bs : List ℕ) → y.pending ≡ false → Awaits (done A c e y bs)
-done-awaits A c (effect.Set rd v) y bs calm = record { is = calm }
-done-awaits A c (effect.Read op rd a) y bs calm = cond_both (mapped y a) _ _ Awaits (λ _. went-awaits _ _ calm) (λ _. halted-awaits (Unmapped a) c y bs)
-done-awaits A c (effect.Write a x) y bs calm = cond_both (mapped y a) _ _ Awaits (λ _. went-awaits _ _ calm) (λ _. halted-awaits (Unmapped a) c y bs)
-done-awaits A c (effect.Link rd n t) y bs calm = record { is = calm }
-done-awaits A c (effect.Jump t) y bs calm = record { is = calm }
-done-awaits A c effect.Next y bs calm = record { is = calm }
-done-awaits A c effect.Call y bs calm = called-awaits A c y bs
-done-awaits A c (effect.Stop s) y bs calm = halted-awaits s c y bs
+done_awaits : (A : ℕ → ℕ → Bool) (c : ℕ) (e : Effect) (y : Yard) (bs : List ℕ) → y.pending ≡ false → Awaits (done A c e y bs)
+done_awaits A c (effect.Set rd v) y bs calm = record { is = calm }
+done_awaits A c (effect.Read op rd a) y bs calm = cond_both (mapped y a) _ _ Awaits (λ _. went_awaits _ _ calm) (λ _. halted_awaits (Unmapped a) c y bs)
+done_awaits A c (effect.Write a x) y bs calm = cond_both (mapped y a) _ _ Awaits (λ _. went_awaits _ _ calm) (λ _. halted_awaits (Unmapped a) c y bs)
+done_awaits A c (effect.Link rd n t) y bs calm = record { is = calm }
+done_awaits A c (effect.Jump t) y bs calm = record { is = calm }
+done_awaits A c effect.Next y bs calm = record { is = calm }
+done_awaits A c effect.Call y bs calm = called_awaits A c y bs
+done_awaits A c (effect.Stop s) y bs calm = halted_awaits s c y bs
 
-performed-awaits : (A : ℕ → ℕ → Bool) (c : ℕ) (f : Result Instruction Stop) (y : Yard) (bs : List ℕ) → y.pending ≡ false → Awaits (performed A c f y bs)
-performed-awaits A c (Ok i) y bs calm = done-awaits A c (executed i (at y c).registers (at y c).pc) y bs calm
-performed-awaits A c (Err s) y bs calm = halted-awaits s c y bs
+performed_awaits : (A : ℕ → ℕ → Bool) (c : ℕ) (f : Result Instruction Stop) (y : Yard) (bs : List ℕ) → y.pending ≡ false → Awaits (performed A c f y bs)
+performed_awaits A c (Ok i) y bs calm = done_awaits A c (executed i (at y c).registers (at y c).pc) y bs calm
+performed_awaits A c (Err s) y bs calm = halted_awaits s c y bs
 
-stepped-awaits : (A : ℕ → ℕ → Bool) (y : Yard) (bs : List ℕ) → y.pending ≡ false → Awaits (stepped A y bs)
-stepped-awaits A y bs calm = performed-awaits A (current y) (fetched y.store (at y (current y)).pc) y bs calm
+stepped_awaits : (A : ℕ → ℕ → Bool) (y : Yard) (bs : List ℕ) → y.pending ≡ false → Awaits (stepped A y bs)
+stepped_awaits A y bs calm = performed_awaits A (current y) (fetched y.store (at y (current y)).pc) y bs calm
 
 -- a run
 
 abbrev Settled : Ran → Type 0
 Settled r = r.yard.pending ≡ is_host r.report.reason
 
-on-settled : (o : Option Ending) (y : Yard) (bs : List ℕ) (n : ℕ) (go : ℕ → Yard → List ℕ → Ran) → y.pending ≡ awaits o → (o ≡ None → Settled (go n y bs)) →
+on_settled : (o : Option Ending) (y : Yard) (bs : List ℕ) (n : ℕ) (go : ℕ → Yard → List ℕ → Ran) → y.pending ≡ awaits o → (o ≡ None → Settled (go n y bs)) →
     Settled (on (record { yard = y; bytes = bs; ended = o }) n go)
-on-settled None y bs n go e h = h refl
-on-settled (Some x) y bs n go e h = e
+on_settled None y bs n go e h = h refl
+on_settled (Some x) y bs n go e h = e
 
 ran_settled : (A : ℕ → ℕ → Bool) (k n : ℕ) (y : Yard) (bs : List ℕ) → y.pending ≡ false → Settled (ran A k n y bs)
 ran_settled A zero n y bs calm = calm
 ran_settled A (suc k) n y bs calm =
     let a = stepped A y bs in
-    let h = (stepped-awaits A y bs calm).is in
-    on-settled a.ended a.yard a.bytes (n + 1) (ran A k) h (λ e. ran_settled A k (n + 1) a.yard a.bytes (h ∙ ap awaits e))
+    let h = (stepped_awaits A y bs calm).is in
+    on_settled a.ended a.yard a.bytes (n + 1) (ran A k) h (λ e. ran_settled A k (n + 1) a.yard a.bytes (h ∙ ap awaits e))
 
 abbrev settles : (before after : Bool) → Result Report (List ℕ) → Type 0
 settles p q (Ok r) = (p ≡ false) × (q ≡ is_host r.reason)
@@ -117,27 +117,27 @@ settles p q (Err e) = q ≡ p
 abbrev Settles : Bool → Running → Type 0
 Settles p x = settles p x.yard.pending x.answer
 
-refused-settles : (o : Option Refusal) (y : Yard) (bs : List ℕ) (a : Ran) → (o ≡ None → (y.pending ≡ false) × Settled a) → Settles y.pending (or_refused o y bs a)
-refused-settles None y bs a h = h refl
-refused-settles (Some r) y bs a h = refl
+refused_settles : (o : Option Refusal) (y : Yard) (bs : List ℕ) (a : Ran) → (o ≡ None → (y.pending ≡ false) × Settled a) → Settles y.pending (or_refused o y bs a)
+refused_settles None y bs a h = h refl
+refused_settles (Some r) y bs a h = refl
 
 calm_run : (p a m : Bool) → cond p (Some HostPending) (cond a (cond m None (Some MemorySize)) (Some NoneActive)) ≡ None → p ≡ false
 calm_run true a m e = absurd (let z : ◌≡◌ {A = ℕ} 0 1 = cc in omega arith)
 calm_run false a m e = refl
 
-running-settles : (A : ℕ → ℕ → Bool) (k : ℕ) (y : Yard) (bs : List ℕ) → Settles y.pending (running A k y bs)
-running-settles A k y bs =
-    refused-settles (run_refused y bs) y bs (ran A k 0 y bs)
+running_settles : (A : ℕ → ℕ → Bool) (k : ℕ) (y : Yard) (bs : List ℕ) → Settles y.pending (running A k y bs)
+running_settles A k y bs =
+    refused_settles (run_refused y bs) y bs (ran A k 0 y bs)
     (λ e. let calm = calm_run y.pending (some_active y) (eqb (length bs) y.size) e in (calm, ran_settled A k 0 y bs calm))
 
-answered-settles : (A : ℕ → ℕ → Bool) (k : ℕ) (y z : Yard) (bs cs : List ℕ) (o : Result Outcome Refusal) → answered_by z cs o ≡ running A k y bs → Settles y.pending (answered_by z cs o)
-answered-settles A k y z bs cs o e = subst (Settles y.pending) (sym e) (running-settles A k y bs)
+answered_settles : (A : ℕ → ℕ → Bool) (k : ℕ) (y z : Yard) (bs cs : List ℕ) (o : Result Outcome Refusal) → answered_by z cs o ≡ running A k y bs → Settles y.pending (answered_by z cs o)
+answered_settles A k y z bs cs o e = subst (Settles y.pending) (sym e) (running_settles A k y bs)
 
 -- a pending call is held exactly where the yard waits
-pub run-held : (A : ℕ → ℕ → Bool) (k : ℕ) (y z : Yard) (bs cs : List ℕ) (o : Result Outcome Refusal) → answered_by z cs o ≡ running A k y bs → Tokened o → holding y.pending o ≡ z.pending
-run-held A k y z bs cs (Ok (Ended r)) e n = let t = answered-settles A k y z bs cs (Ok (Ended r)) e in t.0 ∙ sym (t.1 ∙ not-host r.reason n)
-run-held A k y z bs cs (Ok (Asked r q)) e h = let t = answered-settles A k y z bs cs (Ok (Asked r q)) e in sym (t.1 ∙ ap is_host h)
-run-held A k y z bs cs (Err x) e _ = sym (answered-settles A k y z bs cs (Err x) e)
+pub run_held : (A : ℕ → ℕ → Bool) (k : ℕ) (y z : Yard) (bs cs : List ℕ) (o : Result Outcome Refusal) → answered_by z cs o ≡ running A k y bs → Tokened o → holding y.pending o ≡ z.pending
+run_held A k y z bs cs (Ok (Ended r)) e n = let t = answered_settles A k y z bs cs (Ok (Ended r)) e in t.0 ∙ sym (t.1 ∙ not_host r.reason n)
+run_held A k y z bs cs (Ok (Asked r q)) e h = let t = answered_settles A k y z bs cs (Ok (Asked r q)) e in sym (t.1 ∙ ap is_host h)
+run_held A k y z bs cs (Err x) e _ = sym (answered_settles A k y z bs cs (Err x) e)
 
 -- no other call but a reply changes whether the yard waits
 
@@ -148,32 +148,32 @@ settled_same : (y : Yard) (r : Result Domain (List ℕ)) → Waits y.pending (se
 settled_same y (Ok d) = refl
 settled_same y (Err e) = refl
 
-refusing-same : {T : Type 0} (b : Bool) (r : Refusal) (y : Yard) (x : Yard × Result T (List ℕ)) → (b ≡ false → Waits y.pending x) → Waits y.pending (refusing b r y x)
-refusing-same true r y x h = refl
-refusing-same false r y x h = h refl
+refusing_same : {T : Type 0} (b : Bool) (r : Refusal) (y : Yard) (x : Yard × Result T (List ℕ)) → (b ≡ false → Waits y.pending x) → Waits y.pending (refusing b r y x)
+refusing_same true r y x h = refl
+refusing_same false r y x h = h refl
 
 through_same : (o : Option Entry) (vs : List ℕ) (y : Yard) → Waits y.pending (through_gate o vs y)
 through_same None vs y = refl
 through_same (Some e) vs y =
-    refusing-same y.pending HostPending y _
-    (λ calm. refusing-same (some_active y) DomainActive y _ (λ _. refusing-same (is_stopped (at y e.domain).state) DomainStopped y _ (λ _. sym calm)))
+    refusing_same y.pending HostPending y _
+    (λ calm. refusing_same (some_active y) DomainActive y _ (λ _. refusing_same (is_stopped (at y e.domain).state) DomainStopped y _ (λ _. sym calm)))
 
 module _ (b : Bool) (y z : Yard) (held : b ≡ y.pending) where
   same : {T : Type 0} (r : Result T (List ℕ)) (x : Yard × Result T (List ℕ)) → (z, r) ≡ x → Waits y.pending x → b ≡ z.pending
   same r x e h = held ∙ sym (ap (λ p. p.0.pending) e ∙ h)
 
-  pub admitted-held : (xs : List ℕ) (w m d k : ℕ) (r : Result ℕ (List ℕ)) → (z, r) ≡ admitted y xs w m d k → b ≡ z.pending
-  admitted-held xs w m d k r e = same r _ e (settled_same y (admission y xs w m d k))
+  pub admitted_held : (xs : List ℕ) (w m d k : ℕ) (r : Result ℕ (List ℕ)) → (z, r) ≡ admitted y xs w m d k → b ≡ z.pending
+  admitted_held xs w m d k r e = same r _ e (settled_same y (admission y xs w m d k))
 
-  pub opened-held : (g d o : ℕ) (r : Result (Unit {0}) (List ℕ)) → (z, r) ≡ opened y g d o → b ≡ z.pending
-  opened-held g d o r e =
+  pub opened_held : (g d o : ℕ) (r : Result (Unit {0}) (List ℕ)) → (z, r) ≡ opened y g d o → b ≡ z.pending
+  opened_held g d o r e =
       same r _ e
-      (refusing-same (not (gate_fits g)) NoSuchGate y _
-      (λ _. refusing-same (is_some (gate_at y g)) GateTaken y _
-      (λ _. refusing-same (leb y.count d) NoDomain y _ (λ _. refusing-same (not (offset_fits (at y d) o)) EntryOffset y _ (λ _. refl)))))
+      (refusing_same (not (gate_fits g)) NoSuchGate y _
+      (λ _. refusing_same (is_some (gate_at y g)) GateTaken y _
+      (λ _. refusing_same (leb y.count d) NoDomain y _ (λ _. refusing_same (not (offset_fits (at y d) o)) EntryOffset y _ (λ _. refl)))))
 
-  pub called-held : (g : ℕ) (vs : List ℕ) (r : Result (Unit {0}) (List ℕ)) → (z, r) ≡ called_from y g vs → b ≡ z.pending
-  called-held g vs r e = same r _ e (refusing-same (not (gate_fits g)) NoSuchGate y _ (λ _. through_same (gate_at y g) vs y))
+  pub called_held : (g : ℕ) (vs : List ℕ) (r : Result (Unit {0}) (List ℕ)) → (z, r) ≡ called_from y g vs → b ≡ z.pending
+  called_held g vs r e = same r _ e (refusing_same (not (gate_fits g)) NoSuchGate y _ (λ _. through_same (gate_at y g) vs y))
 
-  pub cut-held : (r : Result (Unit {0}) (List ℕ)) → (z, r) ≡ cut_off y → b ≡ z.pending
-  cut-held r e = same r _ e (refusing-same y.pending HostPending y _ (λ calm. refusing-same (not (some_active y)) NoneActive y _ (λ _. sym calm)))
+  pub cut_held : (r : Result (Unit {0}) (List ℕ)) → (z, r) ≡ cut_off y → b ≡ z.pending
+  cut_held r e = same r _ e (refusing_same y.pending HostPending y _ (λ calm. refusing_same (not (some_active y)) NoneActive y _ (λ _. sym calm)))

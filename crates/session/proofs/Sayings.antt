@@ -21,28 +21,28 @@ said_more s z o c ts us e h cs =
     ∙ ap (λ (x : State × Option Said). ts ++ (option_to_list x.1 ++ answers_of x.0 cs)) e
 
 -- the command at a place stands before those after it
-pub next-command : (cs : List Command) (i : ℕ) (c : Command) → i < length cs → c ≡ get_or cs i c → c ∷ drop (i + 1) cs ≡ drop i cs
-next-command cs i c h e = ap (λ x. x ∷ drop (i + 1) cs) e ∙ sym (drop-cons cs i c h ∙ ap (λ n. get_or cs i c ∷ drop n cs) (sym (add-one i)))
+pub next_command : (cs : List Command) (i : ℕ) (c : Command) → i < length cs → c ≡ get_or cs i c → c ∷ drop (i + 1) cs ≡ drop i cs
+next_command cs i c h e = ap (λ x. x ∷ drop (i + 1) cs) e ∙ sym (drop-cons cs i c h ∙ ap (λ n. get_or cs i c ∷ drop n cs) (sym (add-one i)))
 
-pub spoken-noted : (xs ys : List Answer) (a : Answer) (o : Option Answer) → ys ≡ xs ++ a ∷ [] → o ≡ Some a → spoken ys ≡ spoken xs ++ option_to_list (option_map plain o)
-spoken-noted xs ys a o e h = ap spoken e ∙ map-append plain xs (a ∷ []) ∙ ap (λ x. spoken xs ++ option_to_list (option_map plain x)) (sym h)
+pub spoken_noted : (xs ys : List Answer) (a : Answer) (o : Option Answer) → ys ≡ xs ++ a ∷ [] → o ≡ Some a → spoken ys ≡ spoken xs ++ option_to_list (option_map plain o)
+spoken_noted xs ys a o e h = ap spoken e ∙ map-append plain xs (a ∷ []) ∙ ap (λ x. spoken xs ++ option_to_list (option_map plain x)) (sym h)
 
-pub yard-more : (s z : State) (c : Command) (n : ℕ) (ts : List Said) → c ≡ cmd.Yard n → z ≡ under_yard s n → (cs : List Command) → ts ++ answers_of z cs ≡ ts ++ answers_of s (c ∷ cs)
-yard-more s z c n ts h e cs = ap (λ x. ts ++ answers_of x cs) e ∙ ap (λ x. ts ++ answers_of s (x ∷ cs)) (sym h)
+pub yard_more : (s z : State) (c : Command) (n : ℕ) (ts : List Said) → c ≡ cmd.Yard n → z ≡ under_yard s n → (cs : List Command) → ts ++ answers_of z cs ≡ ts ++ answers_of s (c ∷ cs)
+yard_more s z c n ts h e cs = ap (λ x. ts ++ answers_of x cs) e ∙ ap (λ x. ts ++ answers_of s (x ∷ cs)) (sym h)
 
 -- what was said before the first yard, and what is said under it
-pub then-under : (o : Option (ℕ × ℕ)) (n i : ℕ) (memory : Buffers) (policy : AnyPolicy) (code : List ℕ) (cs : List Command) (ts us all : List Said) → o ≡ Some (n, i) →
+pub then_under : (o : Option (ℕ × ℕ)) (n i : ℕ) (memory : Buffers) (policy : AnyPolicy) (code : List ℕ) (cs : List Command) (ts us all : List Said) → o ≡ Some (n, i) →
     us ≡ ts ++ answers_of (state_of memory policy code true (new_yard code n)) (drop i cs) → ts ++ following o memory policy code cs ≡ all → us ≡ all
-then-under o n i memory policy code cs ts us all e h g = h ∙ (ap (λ x. ts ++ following x memory policy code cs) (sym e) ∙ g)
+then_under o n i memory policy code cs ts us all e h g = h ∙ (ap (λ x. ts ++ following x memory policy code cs) (sym e) ∙ g)
 
 -- the command at a place was performed
-pub loop-more : (cs : List Command) (i : ℕ) (c : Command) (s z : State) (ts us all : List Said) → i < length cs → c ≡ get_or cs i c →
+pub loop_more : (cs : List Command) (i : ℕ) (c : Command) (s z : State) (ts us all : List Said) → i < length cs → c ≡ get_or cs i c →
     ((ds : List Command) → us ++ answers_of z ds ≡ ts ++ answers_of s (c ∷ ds)) → ts ++ answers_of s (drop i cs) ≡ all → us ++ answers_of z (drop (i + 1) cs) ≡ all
-loop-more cs i c s z ts us all h is e inv = e (drop (i + 1) cs) ∙ (ap (λ l. ts ++ answers_of s l) (next-command cs i c h is) ∙ inv)
+loop_more cs i c s z ts us all h is e inv = e (drop (i + 1) cs) ∙ (ap (λ l. ts ++ answers_of s l) (next_command cs i c h is) ∙ inv)
 
 -- all of them were
-pub loop-end : (cs : List Command) (i : ℕ) (s : State) (ts all : List Said) → length cs ≤ i → ts ++ answers_of s (drop i cs) ≡ all → ts ++ [] ≡ all
-loop-end cs i s ts all h inv = ap (λ l. ts ++ answers_of s l) (sym (drop_all i cs h)) ∙ inv
+pub loop_end : (cs : List Command) (i : ℕ) (s : State) (ts all : List Said) → length cs ≤ i → ts ++ answers_of s (drop i cs) ≡ all → ts ++ [] ≡ all
+loop_end cs i s ts all h inv = ap (λ l. ts ++ answers_of s l) (sym (drop_all i cs h)) ∙ inv
 
 -- the slice from a place on
 pub from_place : (cs : List Command) (i : ℕ) → take (length cs - i) (drop i cs) ≡ drop i cs

@@ -19,26 +19,26 @@ use Rattle.steps.specs.Model.{Domain, Entry, Yard, nobody, at, put, gate_at, map
 use Rattle.steps.specs.Steps.{After, turned, after, chained, told, rest, behind, halted, hosted, returned_to, handed, entered, is_idle, gated, called, done, performed, stepped}
 use Rattle.steps.specs.Whole.{Whole, placed}
 use Rattle.steps.specs.Fence.{current, Kept}
-use Rattle.steps.proofs.Tables.{put_whole, chain-whole}
-use Rattle.steps.proofs.Spares.{spare-pointing, spare-confined}
-use Rattle.steps.proofs.Chains.{popped, not-in-rest, stays-lively}
-use Rattle.steps.proofs.Stays.{own-word}
+use Rattle.steps.proofs.Tables.{put_whole, chain_whole}
+use Rattle.steps.proofs.Spares.{spare_pointing, spare_confined}
+use Rattle.steps.proofs.Chains.{popped, not_in_rest, stays_lively}
+use Rattle.steps.proofs.Stays.{own_word}
 
 -- the next of a chain gets two numbers
-told-whole : (y : Yard) → Whole y → (a b : ℕ) → Whole (told y.chain a b y)
-told-whole y W a b = by y.chain (λ n l. W.chained n l)
+told_whole : (y : Yard) → Whole y → (a b : ℕ) → Whole (told y.chain a b y)
+told_whole y W a b = by y.chain (λ n l. W.chained n l)
   where
     by : (cs : List ℕ) → ((n : ℕ) → n < length cs → get_or cs n 0 < length y.domains) → Whole (told cs a b y)
     by [] h = W
     by (c ∷ cs) h =
         let lt : c < length y.domains = h 0 (omega arith) in
         let xs = (at y c).registers in
-        let one = spare-confined (placed y c) xs 10 a refl (at y c).pc (W.confined c lt) in
+        let one = spare_confined (placed y c) xs 10 a refl (at y c).pc (W.confined c lt) in
         put_whole y W c lt (turned (at y c) (written (written xs 10 a) 11 b) (at y c).pc)
         (record { base = refl; m = refl; segment = refl })
         (record {
-          confined = spare-confined (placed y c) (written xs 10 a) 11 b refl (at y c).pc one;
-          ready = λ e. spare-pointing (placed y c) (written xs 10 a) 11 b refl (spare-pointing (placed y c) xs 10 a refl (W.ready c lt e));
+          confined = spare_confined (placed y c) (written xs 10 a) 11 b refl (at y c).pc one;
+          ready = λ e. spare_pointing (placed y c) (written xs 10 a) 11 b refl (spare_pointing (placed y c) xs 10 a refl (W.ready c lt e));
         })
         (λ n l q e. W.lively n l (ap (λ k. (at y k).state) q ∙ e))
 
@@ -64,18 +64,18 @@ module _ (y : Yard) (W : Whole y) (some : 0 < length y.chain) where
       let d = after event.Stop (at y c) in
       let W1 = popped y W false in
       let W2 = put_whole (chained y (rest y.chain) false) W1 c lt d (record { base = refl; m = refl; segment = refl })
-      (record { confined = W.confined c lt; ready = λ e. absurd (stays-lively event.Stop (at y c).state (λ q. (let z : ◌≡◌ {A = ℕ} 0 1 = cc in omega arith)) awake e) })
-      (λ n l q. absurd (not-in-rest y W some n l q))
+      (record { confined = W.confined c lt; ready = λ e. absurd (stays_lively event.Stop (at y c).state (λ q. (let z : ◌≡◌ {A = ℕ} 0 1 = cc in omega arith)) awake e) })
+      (λ n l q. absurd (not_in_rest y W some n l q))
       in
-      told-whole (chained (put y c d) (rest y.chain) false) W2 0xFFFFFFFF (stop_row s).0
+      told_whole (chained (put y c d) (rest y.chain) false) W2 0xFFFFFFFF (stop_row s).0
 
   -- it asks the host
   hosts : (bs : List ℕ) → Confined (placed y c) (at y c).registers (next_of (at y c).pc) → Whole (hosted c y bs).yard
   hosts bs h =
       let d = after event.Host (behind c y) in
-      let lively : moved (at y c).state event.Host ≡ Idle → ⊥ = stays-lively event.Host (at y c).state (λ q. (let z : ◌≡◌ {A = ℕ} 0 1 = cc in omega arith)) awake in
+      let lively : moved (at y c).state event.Host ≡ Idle → ⊥ = stays_lively event.Host (at y c).state (λ q. (let z : ◌≡◌ {A = ℕ} 0 1 = cc in omega arith)) awake in
       let W1 = put_whole y W c lt d (record { base = refl; m = refl; segment = refl }) (record { confined = h; ready = λ e. absurd (lively e) }) (λ n l q e. lively e) in
-      chain-whole (put y c d) W1 y.chain true W1.chained W1.lively W1.distinct
+      chain_whole (put y c d) W1 y.chain true W1.chained W1.lively W1.distinct
 
   -- it returns
   returns_to : (bs : List ℕ) → Confined (placed y c) (at y c).registers (next_of (at y c).pc) → Pointing (placed y c) (at y c).registers →
@@ -83,22 +83,22 @@ module _ (y : Yard) (W : Whole y) (some : 0 < length y.chain) where
   returns_to bs h p =
       let d = after event.Return (behind c y) in
       let W2 = put_whole (chained y (rest y.chain) false) (popped y W false) c lt d (record { base = refl; m = refl; segment = refl })
-      (record { confined = h; ready = λ _. p }) (λ n l q. absurd (not-in-rest y W some n l q))
+      (record { confined = h; ready = λ _. p }) (λ n l q. absurd (not_in_rest y W some n l q))
       in
       by (rest y.chain) W2
     where
       by : (ks : List ℕ) → Whole (chained (put y c (after event.Return (behind c y))) ks false) → Whole (returned_to ks c y bs).yard
       by [] w = w
-      by (k ∷ ks) w = told-whole (chained (put y c (after event.Return (behind c y))) (k ∷ ks) false) w _ _
+      by (k ∷ ks) w = told_whole (chained (put y c (after event.Return (behind c y))) (k ∷ ks) false) w _ _
 
-idle-is : (s : State) → is_idle s ≡ true → s ≡ Idle
-idle-is Idle e = refl
-idle-is Active e = absurd (let z : ◌≡◌ {A = ℕ} 0 1 = cc in omega arith)
-idle-is AtHost e = absurd (let z : ◌≡◌ {A = ℕ} 0 1 = cc in omega arith)
-idle-is Stopped e = absurd (let z : ◌≡◌ {A = ℕ} 0 1 = cc in omega arith)
+idle_is : (s : State) → is_idle s ≡ true → s ≡ Idle
+idle_is Idle e = refl
+idle_is Active e = absurd (let z : ◌≡◌ {A = ℕ} 0 1 = cc in omega arith)
+idle_is AtHost e = absurd (let z : ◌≡◌ {A = ℕ} 0 1 = cc in omega arith)
+idle_is Stopped e = absurd (let z : ◌≡◌ {A = ℕ} 0 1 = cc in omega arith)
 
-active-not-idle : Active ≡ Idle → ⊥
-active-not-idle e = let z : ◌≡◌ {A = ℕ} 0 1 = cc in omega arith
+active_not_idle : Active ≡ Idle → ⊥
+active_not_idle e = let z : ◌≡◌ {A = ℕ} 0 1 = cc in omega arith
 
 -- seven numbers are handed over to a domain whose pointers lie in their blocks
 hands : (y : Yard) (k : ℕ) (f xs : List ℕ) (pc a : ℕ) → Confined (placed y k) xs pc → Pointing (placed y k) xs → InCode (placed y k) a → Confined (placed y k) (handed f xs) a
@@ -119,17 +119,17 @@ hands y k f xs pc a h b i =
     (enters d x5 a a 16 (value_of f 16) t5.0 t5.1 i refl).0
 
 -- a domain that is idle is entered, and put on the chain
-pub enters-whole : (y : Yard) (W : Whole y) (k : ℕ) (l : k < length y.domains) (f : List ℕ) (e : Entry) → (at y k).state ≡ Idle → InCode (placed y k) e.pc →
+pub enters_whole : (y : Yard) (W : Whole y) (k : ℕ) (l : k < length y.domains) (f : List ℕ) (e : Entry) → (at y k).state ≡ Idle → InCode (placed y k) e.pc →
     Whole (chained (put y k (entered f e (at y k))) (k ∷ y.chain) false)
-enters-whole y W k l f e idle i =
+enters_whole y W k l f e idle i =
     let d = entered f e (at y k) in
     let state : d.state ≡ Active = ap (λ s. moved s event.Entered) idle in
-    let awake : d.state ≡ Idle → ⊥ = λ q. active-not-idle (sym state ∙ q) in
+    let awake : d.state ≡ Idle → ⊥ = λ q. active_not_idle (sym state ∙ q) in
     let W1 = put_whole y W k l d (record { base = refl; m = refl; segment = refl })
     (record { confined = hands y k f (at y k).registers (at y k).pc e.pc (W.confined k l) (W.ready k l idle) i; ready = λ q. absurd (awake q) }) (λ n m q w. awake w)
     in
     let y1 = put y k d in
-    chain-whole y1 W1 (k ∷ y.chain) false (inside W1) (live W1 awake) unique
+    chain_whole y1 W1 (k ∷ y.chain) false (inside W1) (live W1 awake) unique
   where
     inside : Whole (put y k (entered f e (at y k))) → (n : ℕ) → n < length (k ∷ y.chain) → get_or (k ∷ y.chain) n 0 < length (put y k (entered f e (at y k))).domains
     inside V zero h = rw (length-set y.domains k (entered f e (at y k))) l
@@ -151,33 +151,33 @@ enters-whole y W k l f e idle i =
 module _ (y : Yard) (W : Whole y) (some : 0 < length y.chain) (A : ℕ → ℕ → Bool) (bs : List ℕ)
     (h : Confined (placed y (current y)) (at y (current y)).registers (next_of (at y (current y)).pc)) (p : Pointing (placed y (current y)) (at y (current y)).registers) where
   -- it calls a gate
-  gates-whole : (o : Option Entry) (g : ℕ) → gate_at y g ≡ o → Whole (gated A o g (current y) y bs).yard
-  gates-whole None g is = halts y W some (NoGate g) bs
-  gates-whole (Some e) g is =
+  gates_whole : (o : Option Entry) (g : ℕ) → gate_at y g ≡ o → Whole (gated A o g (current y) y bs).yard
+  gates_whole None g is = halts y W some (NoGate g) bs
+  gates_whole (Some e) g is =
       let c = current y in
       let k = e.domain in
       let t = W.entries g e is in
       cond_both (A c g) _ _ (λ (r : After). Whole r.yard)
       (λ _. cond_both (is_idle (at y k).state) _ _ (λ (r : After). Whole r.yard)
       (λ q.
-      let idle = idle-is (at y k).state q in
+      let idle = idle_is (at y k).state q in
       let apart : k ≡ c → ⊥ = λ same. W.lively 0 some (ap (λ n. (at y n).state) (sym same) ∙ idle) in
       let y1 = put y c (behind c y) in
       let W1 = turns y W some (at y c).registers (next_of (at y c).pc) h in
       let same : at y1 k ≡ at y k = get_or-set_other y.domains c k (behind c y) nobody apart in
       let l1 : k < length y1.domains = rw (length-set y.domains c (behind c y)) t.0 in
       let i1 : InCode (placed y1 k) e.pc = subst (λ (x : Domain). InCode (record { words = words_from y.store x.base x.m; base = x.base; m = x.m; segment = x.segment }) e.pc) (sym same) t.1 in
-      let w = enters-whole y1 W1 k l1 (at y c).registers e (ap (λ (x : Domain). x.state) same ∙ idle) i1 in
+      let w = enters_whole y1 W1 k l1 (at y c).registers e (ap (λ (x : Domain). x.state) same ∙ idle) i1 in
       subst (λ (x : Domain). Whole (chained (put y1 k (entered (at y c).registers e x)) (k ∷ y.chain) false)) same w)
       (λ _. halts y W some (Busy g) bs))
       (λ _. halts y W some (Forbidden g) bs)
 
-  calls-whole : Whole (called A (current y) y bs).yard
-  calls-whole =
+  calls_whole : Whole (called A (current y) y bs).yard
+  calls_whole =
       let g = value_of (at y (current y)).registers 17 in
       cond_both (eqb g 0) _ _ (λ (r : After). Whole r.yard) (λ _. hosts y W some bs h)
       (λ _. cond_both (eqb g 31) _ _ (λ (r : After). Whole r.yard) (λ _. returns_to y W some bs h p)
-      (λ _. cond_both (ltb g 31) _ _ (λ (r : After). Whole r.yard) (λ _. gates-whole (gate_at y g) g refl) (λ _. halts y W some (NoGate g) bs)))
+      (λ _. cond_both (ltb g 31) _ _ (λ (r : After). Whole r.yard) (λ _. gates_whole (gate_at y g) g refl) (λ _. halts y W some (NoGate g) bs)))
 
 does_whole : (y : Yard) (W : Whole y) (some : 0 < length y.chain) (A : ℕ → ℕ → Bool) (bs : List ℕ) (e : Effect) →
     Fine (placed y (current y)) (at y (current y)).registers (at y (current y)).pc e → Whole (done A (current y) e y bs).yard
@@ -189,7 +189,7 @@ does_whole y W some A bs (effect.Write a x) f =
 does_whole y W some A bs (effect.Link rd n t) f = turns y W some _ _ f
 does_whole y W some A bs (effect.Jump t) f = turns y W some _ _ f
 does_whole y W some A bs effect.Next f = turns y W some _ _ f
-does_whole y W some A bs effect.Call f = calls-whole y W some A bs f.0 f.1
+does_whole y W some A bs effect.Call f = calls_whole y W some A bs f.0 f.1
 does_whole y W some A bs (effect.Stop s) f = halts y W some s bs
 
 pub kept : Kept
@@ -197,6 +197,6 @@ kept A y bs W some =
     let c = current y in
     let lt = W.chained 0 some in
     let t = confined (placed y c) (at y c).registers (at y c).pc (W.admitted c lt) (W.confined c lt) in
-    let w = own-word y W c lt t.0 t.1 in
+    let w = own_word y W c lt t.0 t.1 in
     let is : stepped A y bs ≡ done A c (executed t.0 (at y c).registers (at y c).pc) y bs = ap (λ f. performed A c f y bs) w in
     subst (λ (r : After). Whole r.yard) (sym is) (does_whole y W some A bs _ t.2)

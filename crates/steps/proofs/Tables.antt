@@ -74,9 +74,9 @@ module _ (y : Yard) (W : Whole y) (c : ℕ) (lt : c < length y.domains) (d : Dom
   }
 
 -- another chain, of domains of the yard
-pub chain-whole : (y : Yard) → Whole y → (cs : List ℕ) (b : Bool) → ((n : ℕ) → n < length cs → get_or cs n 0 < length y.domains) →
+pub chain_whole : (y : Yard) → Whole y → (cs : List ℕ) (b : Bool) → ((n : ℕ) → n < length cs → get_or cs n 0 < length y.domains) →
     ((n : ℕ) → n < length cs → (at y (get_or cs n 0)).state ≡ Idle → ⊥) → ((i j : ℕ) → i < length cs → j < length cs → get_or cs i 0 ≡ get_or cs j 0 → i ≡ j) → Whole (chained y cs b)
-chain-whole y W cs b h l u = record {
+chain_whole y W cs b h l u = record {
   few = W.few;
   admitted = W.admitted;
   framed = W.framed;

@@ -5,8 +5,8 @@ use Rattle.std.proofs.lemmas.List.{take_more, take_more_set, reverse-append}
 use Rattle.yard.specs.Lasts.{last_of}
 
 -- the last of the places is the first of the chain
-pub first-last : (xs : List ℕ) (n : ℕ) → 0 < n → n ≤ length xs → reverse (take n xs) ≡ get_or xs (n - 1) 0 ∷ reverse (take (n - 1) xs)
-first-last xs n some le =
+pub first_last : (xs : List ℕ) (n : ℕ) → 0 < n → n ≤ length xs → reverse (take n xs) ≡ get_or xs (n - 1) 0 ∷ reverse (take (n - 1) xs)
+first_last xs n some le =
     let back : n ≡ n - 1 + 1 = omega arith in
     ap (λ k. reverse (take k xs)) back ∙ ap reverse (take_more xs (n - 1) 0 (omega arith)) ∙ reverse-append (take (n - 1) xs) (get_or xs (n - 1) 0 ∷ [])
 
@@ -15,14 +15,14 @@ pub one_more : (xs : List ℕ) (n x : ℕ) → n < length xs → reverse (take (
 one_more xs n x lt = ap reverse (take_more_set xs n x lt) ∙ reverse-append (take n xs) (x ∷ [])
 
 -- the last place, kept by itself
-pub last-first : (xs : List ℕ) (n : ℕ) → n ≤ length xs → last_of xs n ≡ get_or (reverse (take n xs)) 0 0
-last-first xs n le =
+pub last_first : (xs : List ℕ) (n : ℕ) → n ≤ length xs → last_of xs n ≡ get_or (reverse (take n xs)) 0 0
+last_first xs n le =
     ⊎_elim (λ (e : n ≡ 0). ap (λ k. last_of xs k) e ∙ sym (ap (λ k. get_or (reverse (take k xs)) 0 0) e))
-    (λ (e : n ≡ 0 → ⊥). cond-false (eqb n 0) 0 _ (ne_eqb n 0 e) ∙ sym (ap (λ (l : List ℕ). get_or l 0 0) (first-last xs n (omega (arith, e)) le)))
+    (λ (e : n ≡ 0 → ⊥). cond-false (eqb n 0) 0 _ (ne_eqb n 0 e) ∙ sym (ap (λ (l : List ℕ). get_or l 0 0) (first_last xs n (omega (arith, e)) le)))
     (cases_eq n 0)
 
-pub last-known : (xs : List ℕ) (n : ℕ) → ((k : ℕ) → k < n → get_or xs k 0 < 8) → last_of xs n < 8
-last-known xs n h =
+pub last_known : (xs : List ℕ) (n : ℕ) → ((k : ℕ) → k < n → get_or xs k 0 < 8) → last_of xs n < 8
+last_known xs n h =
     ⊎_elim (λ (e : n ≡ 0). subst (λ k. last_of xs k < 8) (sym e) (let z : 0 < 8 = omega arith in z))
     (λ (e : n ≡ 0 → ⊥). subst (λ x. x < 8) (sym (cond-false (eqb n 0) 0 _ (ne_eqb n 0 e))) (h (n - 1) (omega (arith, e))))
     (cases_eq n 0)

@@ -12,5 +12,5 @@ pub ready_prop : (i : ℕ) (y : Yard) → IsProp (Ready i y)
 ready_prop i y a b =
     λ j. record { awake = Bool-set (is_idle (at y i).state) false a.awake b.awake j; room = Π_prop (λ k. Π_prop (λ l. Π_prop (λ e. le_prop))) a.room b.room j }
 
-pub goes-prop : (y : Yard) → IsProp (GoesOn y)
-goes-prop y a b = λ j. record { some = le_prop a.some b.some j; free = Bool-set y.pending false a.free b.free j }
+pub goes_prop : (y : Yard) → IsProp (GoesOn y)
+goes_prop y a b = λ j. record { some = le_prop a.some b.some j; free = Bool-set y.pending false a.free b.free j }

@@ -14,11 +14,11 @@ module _ (n k : ℕ) (f : ℕ → ℕ) (below : (i : ℕ) → i < suc k → f i 
   abbrev g : ℕ → ℕ
   g i = cond (eqb (f i) n) (f k) (f i)
 
-  g-top : (i : ℕ) → f i ≡ n → g i ≡ f k
-  g-top i e = cond-true (eqb (f i) n) (f k) (f i) (eq-eqb (f i) n e)
+  g_top : (i : ℕ) → f i ≡ n → g i ≡ f k
+  g_top i e = cond-true (eqb (f i) n) (f k) (f i) (eq-eqb (f i) n e)
 
-  g-low : (i : ℕ) → (f i ≡ n → ⊥) → g i ≡ f i
-  g-low i e = cond-false (eqb (f i) n) (f k) (f i) (ne_eqb (f i) n e)
+  g_low : (i : ℕ) → (f i ≡ n → ⊥) → g i ≡ f i
+  g_low i e = cond-false (eqb (f i) n) (f k) (f i) (ne_eqb (f i) n e)
 
   last : (i : ℕ) → i < k → f i ≡ f k → ⊥
   last i l e = let h = apart i k (omega arith) (omega arith) e in omega arith
@@ -26,8 +26,8 @@ module _ (n k : ℕ) (f : ℕ → ℕ) (below : (i : ℕ) → i < suc k → f i 
   under : (i : ℕ) → i < k → g i < n
   under i l =
       ⊎_elim
-      (λ (e : f i ≡ n). subst (λ x. x < n) (sym (g-top i e)) (let b = below k (omega arith) in let ne : f k ≡ n → ⊥ = λ q. last i l (e ∙ sym q) in omega (arith, ne)))
-      (λ (e : f i ≡ n → ⊥). subst (λ x. x < n) (sym (g-low i e)) (let b = below i (omega arith) in omega (arith, e)))
+      (λ (e : f i ≡ n). subst (λ x. x < n) (sym (g_top i e)) (let b = below k (omega arith) in let ne : f k ≡ n → ⊥ = λ q. last i l (e ∙ sym q) in omega (arith, ne)))
+      (λ (e : f i ≡ n → ⊥). subst (λ x. x < n) (sym (g_low i e)) (let b = below i (omega arith) in omega (arith, e)))
       (cases_eq (f i) n)
 
   other : (i j : ℕ) → i < k → j < k → g i ≡ g j → i ≡ j
@@ -35,11 +35,11 @@ module _ (n k : ℕ) (f : ℕ → ℕ) (below : (i : ℕ) → i < suc k → f i 
       ⊎_elim
       (λ (e : f i ≡ n). ⊎_elim
       (λ (d : f j ≡ n). apart i j (omega arith) (omega arith) (e ∙ sym d))
-      (λ (d : f j ≡ n → ⊥). absurd (last j b (sym (g-low j d) ∙ (sym q ∙ g-top i e))))
+      (λ (d : f j ≡ n → ⊥). absurd (last j b (sym (g_low j d) ∙ (sym q ∙ g_top i e))))
       (cases_eq (f j) n))
       (λ (e : f i ≡ n → ⊥). ⊎_elim
-      (λ (d : f j ≡ n). absurd (last i a (sym (g-low i e) ∙ (q ∙ g-top j d))))
-      (λ (d : f j ≡ n → ⊥). apart i j (omega arith) (omega arith) (sym (g-low i e) ∙ (q ∙ g-low j d)))
+      (λ (d : f j ≡ n). absurd (last i a (sym (g_low i e) ∙ (q ∙ g_top j d))))
+      (λ (d : f j ≡ n → ⊥). apart i j (omega arith) (omega arith) (sym (g_low i e) ∙ (q ∙ g_low j d)))
       (cases_eq (f j) n))
       (cases_eq (f i) n)
 
@@ -49,16 +49,16 @@ pigeons n zero f below apart = omega arith
 pigeons zero (suc k) f below apart = absurd (let h = below 0 (omega arith) in omega arith)
 pigeons (suc n) (suc k) f below apart = let h = pigeons n k (g n k f below apart) (under n k f below apart) (other n k f below apart) in omega arith
 
-active-not-idle : (s : State) → s ≡ Active → is_idle s ≡ false
-active-not-idle s e = ap is_idle e
+active_not_idle : (s : State) → s ≡ Active → is_idle s ≡ false
+active_not_idle s e = ap is_idle e
 
-true-false : (b : Bool) → b ≡ true → b ≡ false → ⊥
-true-false b p q = let z : ◌≡◌ {A = ℕ} 0 1 = cc in omega arith
+true_false : (b : Bool) → b ≡ true → b ≡ false → ⊥
+true_false b p q = let z : ◌≡◌ {A = ℕ} 0 1 = cc in omega arith
 
 module _ (y : Yard) (W : Whole y) (calm : y.pending ≡ false) where
   -- whoever is idle is not on the chain
   off : (k : ℕ) → is_idle (at y k).state ≡ true → (i : ℕ) → i < length y.chain → get_or y.chain i 0 ≡ k → ⊥
-  off k idle i l e = true-false (is_idle (at y k).state) idle (active-not-idle _ (ap (λ n. (at y n).state) (sym e) ∙ active y W calm i l))
+  off k idle i l e = true_false (is_idle (at y k).state) idle (active_not_idle _ (ap (λ n. (at y n).state) (sym e) ∙ active y W calm i l))
 
   abbrev all : ℕ → ℕ → ℕ
   all k i = get_or (k ∷ y.chain) i 0
@@ -77,4 +77,4 @@ module _ (y : Yard) (W : Whole y) (calm : y.pending ≡ false) where
   room k l idle = let p = pigeons 8 (suc (length y.chain)) (all k) (low k l) (apart k idle) in omega arith
 
   pub ready : 0 < length y.chain → Ready (current y) y
-  ready some = record { awake = active-not-idle _ (active y W calm 0 some); room = room }
+  ready some = record { awake = active_not_idle _ (active y W calm 0 some); room = room }

@@ -22,14 +22,14 @@ module _ (A : ℕ → ℕ → Bool) (y y' : Yard) (bs bs' : List ℕ) where
 
 -- why a run is turned down
 module _ (y : Yard) (bs : List ℕ) where
-  pub while-pending : y.pending ≡ true → run_refused y bs ≡ Some HostPending
-  while-pending p = cond-true y.pending _ _ p
+  pub while_pending : y.pending ≡ true → run_refused y bs ≡ Some HostPending
+  while_pending p = cond-true y.pending _ _ p
 
-  pub none-active : y.pending ≡ false → some_active y ≡ false → run_refused y bs ≡ Some NoneActive
-  none-active p a = cond-false y.pending _ _ p ∙ cond-false (some_active y) _ _ a
+  pub none_active : y.pending ≡ false → some_active y ≡ false → run_refused y bs ≡ Some NoneActive
+  none_active p a = cond-false y.pending _ _ p ∙ cond-false (some_active y) _ _ a
 
-  pub other-size : y.pending ≡ false → some_active y ≡ true → (length bs ≡ y.size → ⊥) → run_refused y bs ≡ Some MemorySize
-  other-size p a s = cond-false y.pending _ _ p ∙ (cond-true (some_active y) _ _ a ∙ cond-false (eqb (length bs) y.size) _ _ (ne_eqb (length bs) y.size s))
+  pub other_size : y.pending ≡ false → some_active y ≡ true → (length bs ≡ y.size → ⊥) → run_refused y bs ≡ Some MemorySize
+  other_size p a s = cond-false y.pending _ _ p ∙ (cond-true (some_active y) _ _ a ∙ cond-false (eqb (length bs) y.size) _ _ (ne_eqb (length bs) y.size s))
 
   pub taken : y.pending ≡ false → some_active y ≡ true → length bs ≡ y.size → run_refused y bs ≡ None
   taken p a s = cond-false y.pending _ _ p ∙ (cond-true (some_active y) _ _ a ∙ cond-true (eqb (length bs) y.size) _ _ (eq-eqb (length bs) y.size s))

@@ -15,7 +15,7 @@ use Rattle.yard_steps.specs.Calls.{near, fresh, admission, with_domain, settled,
 use Rattle.yard_steps.specs.Whole.{Whole}
 use Rattle.yard_steps.proofs.Below.{none_below}
 use Rattle.yard_steps.proofs.Tables.{standing, Behind, Working, On}
-use Rattle.yard_steps.proofs.Chains.{idle-no-work}
+use Rattle.yard_steps.proofs.Chains.{idle_no_work}
 
 -- what an Ok came by
 then_ok : {X Z : Type 0} (o : Result X (List ℕ)) (f : X → Result Z (List ℕ)) (z : Z) → and_then o f ≡ Ok z → (x : X) × (o ≡ Ok x) × (f x ≡ Ok z)
@@ -26,16 +26,16 @@ if_ok : {Z : Type 0} (b : Bool) (o : Result Z (List ℕ)) (r : List ℕ) (z : Z)
 if_ok true o r z e = (refl, e)
 if_ok false o r z e = absurd (let q : ◌≡◌ {A = ℕ} 0 1 = cc in omega arith)
 
-unless-ok : {Z : Type 0} (b : Bool) (o : Result Z (List ℕ)) (r : List ℕ) (z : Z) → cond b (Err r) o ≡ Ok z → (b ≡ false) × (o ≡ Ok z)
-unless-ok false o r z e = (refl, e)
-unless-ok true o r z e = absurd (let q : ◌≡◌ {A = ℕ} 0 1 = cc in omega arith)
+unless_ok : {Z : Type 0} (b : Bool) (o : Result Z (List ℕ)) (r : List ℕ) (z : Z) → cond b (Err r) o ≡ Ok z → (b ≡ false) × (o ≡ Ok z)
+unless_ok false o r z e = (refl, e)
+unless_ok true o r z e = absurd (let q : ◌≡◌ {A = ℕ} 0 1 = cc in omega arith)
 
 same_ok : {Z : Type 0} (x z : Z) → ◌≡◌ {A = Result Z (List ℕ)} (Ok x) (Ok z) → x ≡ z
 same_ok x z e = cc
 
 -- a segment that is made is sound, and inside the memory
-made-sound : (d k n : ℕ) (s : Row) → made d k n ≡ Ok s → Sound s × (end s ≤ n)
-made-sound d k n s e =
+made_sound : (d k n : ℕ) (s : Row) → made d k n ≡ Ok s → Sound s × (end s ≤ n)
+made_sound d k n s e =
     let t = if_ok (segment_bits_fit k) _ _ s e in
     let u = if_ok (segment_placed d k n) _ _ s t.1 in
     let v = and_parts (leb 10 k) (leb k 16) t.0 in
@@ -45,14 +45,14 @@ made-sound d k n s e =
     (record { large = leb-true 10 k v.0; small = leb-true k 16 v.1; aligned = eqb-true (d % 2 ^ k) 0 w.0; fits = omega arith }, omega arith)
 
 -- the words of a window that was accepted
-window-is : (ws : List ℕ) (b m : ℕ) (us : List ℕ) → windowed ws b m ≡ Ok us → us ≡ words_from ws b m
-window-is ws b m us e =
+window_is : (ws : List ℕ) (b m : ℕ) (us : List ℕ) → windowed ws b m ≡ Ok us → us ≡ words_from ws b m
+window_is ws b m us e =
     let t = if_ok (bits_fit m) _ _ us e in
     let u = if_ok (window_placed ws b m) _ _ us t.1 in
     sym (same_ok _ us u.1)
 
 accepted : (ws : List ℕ) (b m : ℕ) → checked ws b m ≡ Ok tt → Safe ws b m (words_from ws b m)
-accepted ws b m e = let t = gives ws b m (checked ws b m) refl e in subst (Safe ws b m) (window-is ws b m t.0 t.1.window) t.1
+accepted ws b m e = let t = gives ws b m (checked ws b m) refl e in subst (Safe ws b m) (window_is ws b m t.0 t.1.window) t.1
 
 -- what is known of a domain that is to be admitted
 record Admissible (y : Yard) (x : Domain) : Type 0 where
@@ -71,12 +71,12 @@ admissible y xs b m d k x long e =
     let t1 = then_ok (windowed y.store b m) _ x t0.1 in
     let t2 = then_ok (made d k y.size) _ x t1.2 in
     let s = t2.0 in
-    let t3 = unless-ok (near y s) _ _ x t2.2 in
+    let t3 = unless_ok (near y s) _ _ x t2.2 in
     let t4 = then_ok (checked y.store b m) _ x t3.1 in
     let t5 = then_ok (started xs b m s) _ x t4.2 in
     let rs = t5.0 in
     let new = fresh rs b m s in
-    let sound = made-sound d k y.size s t2.1 in
+    let sound = made_sound d k y.size s t2.1 in
     let safe = accepted y.store b m t4.1 in
     let fr = safe.framed in
     let ok : Admitted (standing y.store new) = record {
@@ -102,8 +102,8 @@ admissible y xs b m d k x long e =
       idle = refl;
     })
 
-apart-sym : (s t : Row) → apart s t ≡ true → apart t s ≡ true
-apart-sym s t e =
+apart_sym : (s t : Row) → apart s t ≡ true → apart t s ≡ true
+apart_sym s t e =
     let a = leb (end s + 2048) t.base in
     let b = leb (end t + 2048) s.base in
     ⊎_elim (λ h. or_right b a h) (λ h. or_left b a h) (or_cases a b e)
@@ -121,8 +121,8 @@ module _ (y : Yard) (W : Whole y) (x : Domain) (a : Admissible y x) where
       (λ (n : k ≡ y.count → ⊥). let m : k < y.count = omega (arith, n) in subst (P k) (sym (others k m)) (theirs k m))
       (cases_eq k y.count)
 
-  with-whole : Whole (with_domain y x)
-  with-whole =
+  with_whole : Whole (with_domain y x)
+  with_whole =
       let ws = y.store in
       let z = with_domain y x in
       record {
@@ -134,7 +134,7 @@ module _ (y : Yard) (W : Whole y) (x : Domain) (a : Admissible y x) where
         spread = λ i j l m.
             each (λ k v. (k ≡ j → ⊥) → apart v.segment (at z j).segment ≡ true)
             (each (λ k v. (y.count ≡ k → ⊥) → apart x.segment v.segment ≡ true) (λ n. absurd (n refl)) (λ k o _. a.far k o) j m)
-            (λ i o. each (λ k v. (i ≡ k → ⊥) → apart (at y i).segment v.segment ≡ true) (λ _. apart-sym x.segment (at y i).segment (a.far i o)) (λ k q. W.spread i k o q) j m)
+            (λ i o. each (λ k v. (i ≡ k → ⊥) → apart (at y i).segment v.segment ≡ true) (λ _. apart_sym x.segment (at y i).segment (a.far i o)) (λ k q. W.spread i k o q) j m)
             i l;
         confined = each (λ j v. Confined (standing ws v) v.registers v.pc) a.confined W.confined;
         ready = each (λ j v. v.state ≡ Idle → Pointing (standing ws v) v.registers) (λ _. a.pointing) W.ready;
@@ -142,7 +142,7 @@ module _ (y : Yard) (W : Whole y) (x : Domain) (a : Admissible y x) where
         works = λ n l. ap (λ (v : Domain). v.state) (others _ (W.chained n l)) ∙ W.works n l;
         distinct = W.distinct;
         calling = λ n l. subst (λ (v : Domain). Behind ws v.pc) (sym (others _ (W.chained (n + 1) l))) (W.calling n l);
-        alone = each (λ j v. Working v.state → On y.chain j) (λ w. absurd (idle-no-work _ a.idle w)) W.alone;
+        alone = each (λ j v. Working v.state → On y.chain j) (λ w. absurd (idle_no_work _ a.idle w)) W.alone;
         asked = W.asked;
         entries = λ g e h.
             let t = W.entries g e h in
@@ -150,9 +150,9 @@ module _ (y : Yard) (W : Whole y) (x : Domain) (a : Admissible y x) where
             (omega arith, subst (λ (v : Domain). InCode (standing ws v) e.pc) (sym (others e.domain t.0)) t.1);
       }
 
-pub admitted-whole : (y : Yard) (xs : List ℕ) (b m d k : ℕ) → Whole y → length xs ≡ 32 → Whole (admitted y xs b m d k).0
-admitted-whole y xs b m d k W long = by (admission y xs b m d k) refl
+pub admitted_whole : (y : Yard) (xs : List ℕ) (b m d k : ℕ) → Whole y → length xs ≡ 32 → Whole (admitted y xs b m d k).0
+admitted_whole y xs b m d k W long = by (admission y xs b m d k) refl
   where
     by : (r : Result Domain (List ℕ)) → admission y xs b m d k ≡ r → Whole (settled y r).0
-    by (Ok x) e = with-whole y W x (admissible y xs b m d k x long e)
+    by (Ok x) e = with_whole y W x (admissible y xs b m d k x long e)
     by (Err q) e = W

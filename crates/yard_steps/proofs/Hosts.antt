@@ -15,21 +15,21 @@ use Rattle.yard_steps.specs.Calls.{gate_fits, with_entry, offset_fits, opened, t
 use Rattle.yard_steps.specs.Whole.{Whole, placed, at_work}
 use Rattle.yard_steps.proofs.Below.{none_below}
 use Rattle.yard_steps.proofs.Tables.{standing, Working, remade}
-use Rattle.yard_steps.proofs.Chains.{idle-no-work, stopped-no-work, active, head-whole, enter-whole}
-use Rattle.yard_steps.proofs.Spares.{spare-confined}
+use Rattle.yard_steps.proofs.Chains.{idle_no_work, stopped_no_work, active, head_whole, enter_whole}
+use Rattle.yard_steps.proofs.Spares.{spare_confined}
 use Rattle.yard_steps.proofs.Outcomes.{some_same}
-pub use Rattle.yard_steps.proofs.Admits.{admitted-whole}
+pub use Rattle.yard_steps.proofs.Admits.{admitted_whole}
 
 -- a new yard
 
-no-gate : (n g : ℕ) (e : Entry) → get_or (replicate n None) g None ≡ Some e → ⊥
-no-gate n g e h =
+no_gate : (n g : ℕ) (e : Entry) → get_or (replicate n None) g None ≡ Some e → ⊥
+no_gate n g e h =
     let none : ◌≡◌ {A = Option Entry} (get_or (replicate n None) g None) None =
     ⊎_elim (λ (l : g < n). get_or-replicate n g None None l) (λ (l : n ≤ g). get_or_past (replicate n None) g None (omega (arith, length-replicate {A = Option Entry} n None))) (cases_lt g n) in
     let z : ◌≡◌ {A = ℕ} 0 1 = cc in omega arith
 
-pub new-whole : (ws : List ℕ) (n : ℕ) → Whole (new_yard ws n)
-new-whole ws n = record {
+pub new_whole : (ws : List ℕ) (n : ℕ) → Whole (new_yard ws n)
+new_whole ws n = record {
   eight = refl;
   few = omega arith;
   admitted = λ c l. absurd (omega arith);
@@ -44,7 +44,7 @@ new-whole ws n = record {
   calling = λ i l. absurd (omega arith);
   alone = λ c l. absurd (omega arith);
   asked = λ e. absurd (both_ways false refl e);
-  entries = λ g e h. absurd (no-gate 31 g e h);
+  entries = λ g e h. absurd (no_gate 31 g e h);
 }
 
 -- open
@@ -78,8 +78,8 @@ module _ (y : Yard) (W : Whole y) (g : ℕ) (e : Entry) (l : e.domain < y.count)
         (cases_eq k g);
   }
 
-pub opened-whole : (y : Yard) (g d o : ℕ) → Whole y → Whole (opened y g d o).0
-opened-whole y g d o W =
+pub opened_whole : (y : Yard) (g d o : ℕ) → Whole y → Whole (opened y g d o).0
+opened_whole y g d o W =
     let P : Yard × Result (Unit {0}) (List ℕ) → Type 0 = λ r. Whole r.0 in
     cond_both (not (gate_fits g)) _ _ P (λ _. W)
     (λ _. cond_both (is_some (gate_at y g)) _ _ P (λ _. W)
@@ -96,34 +96,34 @@ opened-whole y g d o W =
 -- call
 
 -- while no call is pending, nobody is at host
-no-host : (y : Yard) → Whole y → y.pending ≡ false → (c : ℕ) → c < y.count → (at y c).state ≡ AtHost → ⊥
-no-host y W calm c l e =
+no_host : (y : Yard) → Whole y → y.pending ≡ false → (c : ℕ) → c < y.count → (at y c).state ≡ AtHost → ⊥
+no_host y W calm c l e =
     let t = W.alone c l (inr e) in
     let busy : (at y c).state ≡ Active = ap (λ k. (at y k).state) (sym t.2) ∙ active y W calm t.0 t.1 in
     let z : ◌≡◌ {A = ℕ} 0 1 = cc in omega arith
 
-not-active : (s : State) → is_active s ≡ false → s ≡ Active → ⊥
-not-active s n e = both_ways (is_active s) n (ap is_active e)
+not_active : (s : State) → is_active s ≡ false → s ≡ Active → ⊥
+not_active s n e = both_ways (is_active s) n (ap is_active e)
 
 -- where nobody is active either, the chain is empty
-no-chain : (y : Yard) → Whole y → y.pending ≡ false → some_active y ≡ false → y.chain ≡ []
-no-chain y W calm none =
+no_chain : (y : Yard) → Whole y → y.pending ≡ false → some_active y ≡ false → y.chain ≡ []
+no_chain y W calm none =
     nil_from_length y.chain
     (⊎_elim
     (λ (l : 0 < length y.chain).
-    absurd (not-active _ (none_below y.count (λ c. is_active (at y c).state) none (current y) (W.chained 0 l)) (active y W calm 0 l)))
+    absurd (not_active _ (none_below y.count (λ c. is_active (at y c).state) none (current y) (W.chained 0 l)) (active y W calm 0 l)))
     (λ (l : length y.chain ≤ 0). omega arith)
     (cases_lt 0 (length y.chain)))
 
 -- a domain that is neither active nor at host nor stopped is idle
-idle-left : (s : State) → is_active s ≡ false → (s ≡ AtHost → ⊥) → is_stopped s ≡ false → s ≡ Idle
-idle-left Idle a h t = refl
-idle-left Active a h t = absurd (both_ways true a refl)
-idle-left AtHost a h t = absurd (h refl)
-idle-left Stopped a h t = absurd (both_ways true t refl)
+idle_left : (s : State) → is_active s ≡ false → (s ≡ AtHost → ⊥) → is_stopped s ≡ false → s ≡ Idle
+idle_left Idle a h t = refl
+idle_left Active a h t = absurd (both_ways true a refl)
+idle_left AtHost a h t = absurd (h refl)
+idle_left Stopped a h t = absurd (both_ways true t refl)
 
-pub called-whole : (y : Yard) (g : ℕ) (vs : List ℕ) → Whole y → Whole (called_from y g vs).0
-called-whole y g vs W = cond_both (not (gate_fits g)) _ _ (λ (r : Yard × Result (Unit {0}) (List ℕ)). Whole r.0) (λ _. W) (λ _. by (gate_at y g) refl)
+pub called_whole : (y : Yard) (g : ℕ) (vs : List ℕ) → Whole y → Whole (called_from y g vs).0
+called_whole y g vs W = cond_both (not (gate_fits g)) _ _ (λ (r : Yard × Result (Unit {0}) (List ℕ)). Whole r.0) (λ _. W) (λ _. by (gate_at y g) refl)
   where
     by : (o : Option Entry) → gate_at y g ≡ o → Whole (through_gate o vs y).0
     by None is = W
@@ -135,37 +135,37 @@ called-whole y g vs W = cond_both (not (gate_fits g)) _ _ (λ (r : Yard × Resul
         (λ calm. cond_both (some_active y) _ _ P (λ _. W)
         (λ none. cond_both (is_stopped (at y k).state) _ _ P (λ _. W)
         (λ stands.
-        let empty = no-chain y W calm none in
-        let idle = idle-left (at y k).state (none_below y.count (λ c. is_active (at y c).state) none k t.0) (no-host y W calm k t.0) stands in
-        let w = enter-whole y W calm k t.0 idle (λ l. absurd (let z = ap length empty in omega arith)) vs e t.1 in
+        let empty = no_chain y W calm none in
+        let idle = idle_left (at y k).state (none_below y.count (λ c. is_active (at y c).state) none k t.0) (no_host y W calm k t.0) stands in
+        let w = enter_whole y W calm k t.0 idle (λ l. absurd (let z = ap length empty in omega arith)) vs e t.1 in
         subst (λ cs. Whole (chained (put y k (entered vs e (at y k))) (k ∷ cs) false)) empty w)))
 
 -- reply
 
-pub replied-whole : (y : Yard) (v : ℕ) → Whole y → Whole (replied y v).0
-replied-whole y v W =
+pub replied_whole : (y : Yard) (v : ℕ) → Whole y → Whole (replied y v).0
+replied_whole y v W =
     let c = current y in
     cond_both (not y.pending) _ _ (λ (r : Yard × Result (Unit {0}) (List ℕ)). Whole r.0) (λ _. W)
     (λ e.
     let waits = not-false y.pending e in
     let some = W.asked waits in
     let hosted : (at y c).state ≡ AtHost = W.works 0 some ∙ ap (λ p. at_work p 0) waits in
-    head-whole y W some c refl (written (at y c).registers 10 v) (at y c).pc (moved (at y c).state event.Reply) false
-    (spare-confined (placed y c) (at y c).registers 10 v refl (at y c).pc (W.confined c (W.chained 0 some))) (ap (λ s. moved s event.Reply) hosted))
+    head_whole y W some c refl (written (at y c).registers 10 v) (at y c).pc (moved (at y c).state event.Reply) false
+    (spare_confined (placed y c) (at y c).registers 10 v refl (at y c).pc (W.confined c (W.chained 0 some))) (ap (λ s. moved s event.Reply) hosted))
 
 -- cut
 
-cut-idle : (s : State) → moved s event.Cut ≡ Idle → s ≡ Idle
-cut-idle Idle e = refl
-cut-idle Active e = absurd (let z : ◌≡◌ {A = ℕ} 0 1 = cc in omega arith)
-cut-idle AtHost e = absurd (let z : ◌≡◌ {A = ℕ} 0 1 = cc in omega arith)
-cut-idle Stopped e = absurd (let z : ◌≡◌ {A = ℕ} 0 1 = cc in omega arith)
+cut_idle : (s : State) → moved s event.Cut ≡ Idle → s ≡ Idle
+cut_idle Idle e = refl
+cut_idle Active e = absurd (let z : ◌≡◌ {A = ℕ} 0 1 = cc in omega arith)
+cut_idle AtHost e = absurd (let z : ◌≡◌ {A = ℕ} 0 1 = cc in omega arith)
+cut_idle Stopped e = absurd (let z : ◌≡◌ {A = ℕ} 0 1 = cc in omega arith)
 
-cut-works : (s : State) → (s ≡ AtHost → ⊥) → Working (moved s event.Cut) → ⊥
-cut-works Idle h w = idle-no-work Idle refl w
-cut-works Active h w = stopped-no-work Stopped refl w
-cut-works AtHost h w = h refl
-cut-works Stopped h w = stopped-no-work Stopped refl w
+cut_works : (s : State) → (s ≡ AtHost → ⊥) → Working (moved s event.Cut) → ⊥
+cut_works Idle h w = idle_no_work Idle refl w
+cut_works Active h w = stopped_no_work Stopped refl w
+cut_works AtHost h w = h refl
+cut_works Stopped h w = stopped_no_work Stopped refl w
 
 cuts : (y : Yard) → Whole y → y.pending ≡ false → Whole (record { store = y.store; size = y.size; domains = map (after event.Cut) y.domains; count = y.count; gates = y.gates; chain = []; pending = false })
 cuts y W calm =
@@ -175,17 +175,17 @@ cuts y W calm =
     remade y W ds [] false (length-map y.domains (after event.Cut) ∙ W.eight)
     (λ k l. ap (standing y.store) (is k l))
     (λ k l. subst (λ (x : Domain). Confined (placed y k) x.registers x.pc) (sym (is k l)) (W.confined k l))
-    (λ k l. subst (λ (x : Domain). x.state ≡ Idle → Pointing (placed y k) x.registers) (sym (is k l)) (λ e. W.ready k l (cut-idle _ e)))
+    (λ k l. subst (λ (x : Domain). x.state ≡ Idle → Pointing (placed y k) x.registers) (sym (is k l)) (λ e. W.ready k l (cut_idle _ e)))
     (record {
       chained = λ n l. absurd (omega arith);
       works = λ n l. absurd (omega arith);
       distinct = λ i j l. absurd (omega arith);
       calling = λ n l. absurd (omega arith);
-      alone = λ k l w. absurd (cut-works (at y k).state (no-host y W calm k l) (subst (λ (x : Domain). Working x.state) (is k l) w));
+      alone = λ k l w. absurd (cut_works (at y k).state (no_host y W calm k l) (subst (λ (x : Domain). Working x.state) (is k l) w));
       asked = λ e. absurd (both_ways false refl e);
     })
 
-pub cut-whole : (y : Yard) → Whole y → Whole (cut_off y).0
-cut-whole y W =
+pub cut_whole : (y : Yard) → Whole y → Whole (cut_off y).0
+cut_whole y W =
     let P : Yard × Result (Unit {0}) (List ℕ) → Type 0 = λ r. Whole r.0 in
     cond_both y.pending _ _ P (λ _. W) (λ calm. cond_both (not (some_active y)) _ _ P (λ _. W) (λ _. cuts y W calm))

@@ -13,11 +13,11 @@ use Rattle.yard_steps.specs.Whole.{Whole}
 use Rattle.yard_steps.proofs.Below.{one_below}
 use Rattle.yard_steps.proofs.Outcomes.{outcome}
 
-active-is : (s : State) → is_active s ≡ true → s ≡ Active
-active-is Active e = refl
-active-is Idle e = absurd (let z : ◌≡◌ {A = ℕ} 0 1 = cc in omega arith)
-active-is AtHost e = absurd (let z : ◌≡◌ {A = ℕ} 0 1 = cc in omega arith)
-active-is Stopped e = absurd (let z : ◌≡◌ {A = ℕ} 0 1 = cc in omega arith)
+active_is : (s : State) → is_active s ≡ true → s ≡ Active
+active_is Active e = refl
+active_is Idle e = absurd (let z : ◌≡◌ {A = ℕ} 0 1 = cc in omega arith)
+active_is AtHost e = absurd (let z : ◌≡◌ {A = ℕ} 0 1 = cc in omega arith)
+active_is Stopped e = absurd (let z : ◌≡◌ {A = ℕ} 0 1 = cc in omega arith)
 
 unrefused : (p a m : Bool) → cond p (Some HostPending) (cond a (cond m None (Some MemorySize)) (Some NoneActive)) ≡ None → (p ≡ false) × (a ≡ true)
 unrefused true a m e = absurd (let z : ◌≡◌ {A = ℕ} 0 1 = cc in omega arith)
@@ -29,26 +29,26 @@ pub runnable : (y : Yard) (bs : List ℕ) → Whole y → run_refused y bs ≡ N
 runnable y bs W e =
     let t = unrefused y.pending (some_active y) (eqb (length bs) y.size) e in
     let j = one_below y.count (λ c. is_active (at y c).state) t.1 in
-    let o = W.alone j.0 j.1 (inl (active-is _ j.2)) in
+    let o = W.alone j.0 j.1 (inl (active_is _ j.2)) in
     let l = o.1 in
     (omega arith, t.0)
 
-on-whole : (o : Option Ending) (y : Yard) (bs : List ℕ) (n : ℕ) (go : ℕ → Yard → List ℕ → Ran) → Whole y → (o ≡ None → Whole (go n y bs).yard) →
+on_whole : (o : Option Ending) (y : Yard) (bs : List ℕ) (n : ℕ) (go : ℕ → Yard → List ℕ → Ran) → Whole y → (o ≡ None → Whole (go n y bs).yard) →
     Whole (on (record { yard = y; bytes = bs; ended = o }) n go).yard
-on-whole None y bs n go W h = h refl
-on-whole (Some e) y bs n go W h = W
+on_whole None y bs n go W h = h refl
+on_whole (Some e) y bs n go W h = W
 
-pub ran-whole : (A : ℕ → ℕ → Bool) (k n : ℕ) (y : Yard) (bs : List ℕ) → Whole y → 0 < length y.chain → y.pending ≡ false → Whole (ran A k n y bs).yard
-ran-whole A zero n y bs W some calm = W
-ran-whole A (suc k) n y bs W some calm =
+pub ran_whole : (A : ℕ → ℕ → Bool) (k n : ℕ) (y : Yard) (bs : List ℕ) → Whole y → 0 < length y.chain → y.pending ≡ false → Whole (ran A k n y bs).yard
+ran_whole A zero n y bs W some calm = W
+ran_whole A (suc k) n y bs W some calm =
     let a = stepped A y bs in
     let o = outcome A y W some calm bs in
-    on-whole a.ended a.yard a.bytes (n + 1) (ran A k) o.whole (λ e. let g = o.goes e in ran-whole A k (n + 1) a.yard a.bytes o.whole g.0 g.1)
+    on_whole a.ended a.yard a.bytes (n + 1) (ran A k) o.whole (λ e. let g = o.goes e in ran_whole A k (n + 1) a.yard a.bytes o.whole g.0 g.1)
 
-refused-whole : (o : Option Refusal) (y : Yard) (bs : List ℕ) (a : Ran) → Whole y → (o ≡ None → Whole a.yard) → Whole (or_refused o y bs a).yard
-refused-whole None y bs a W h = h refl
-refused-whole (Some r) y bs a W h = W
+refused_whole : (o : Option Refusal) (y : Yard) (bs : List ℕ) (a : Ran) → Whole y → (o ≡ None → Whole a.yard) → Whole (or_refused o y bs a).yard
+refused_whole None y bs a W h = h refl
+refused_whole (Some r) y bs a W h = W
 
-pub running-whole : (A : ℕ → ℕ → Bool) (k : ℕ) (y : Yard) (bs : List ℕ) → Whole y → Whole (running A k y bs).yard
-running-whole A k y bs W =
-    refused-whole (run_refused y bs) y bs (ran A k 0 y bs) W (λ e. let t = runnable y bs W e in ran-whole A k 0 y bs W t.0 t.1)
+pub running_whole : (A : ℕ → ℕ → Bool) (k : ℕ) (y : Yard) (bs : List ℕ) → Whole y → Whole (running A k y bs).yard
+running_whole A k y bs W =
+    refused_whole (run_refused y bs) y bs (ran A k 0 y bs) W (λ e. let t = runnable y bs W e in ran_whole A k 0 y bs W t.0 t.1)

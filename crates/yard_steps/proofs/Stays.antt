@@ -3,7 +3,7 @@ use Rattle.std.proofs.Common.{◌≡◌, ℕ, ◌+◌, ◌-◌, ◌%◌, ◌<◌
 use Rattle.std.proofs.lemmas.Bool.{cases_lt, cases_eq}
 use Rattle.std.proofs.lemmas.Bool.Decides.{nat_tests}
 use Rattle.segment.specs.Guards.{Row, inside, Inside, Near, apart}
-use Rattle.segment.proofs.Bounds.{is-inside, whole}
+use Rattle.segment.proofs.Bounds.{is_inside, whole}
 use Rattle.machine.specs.declared.widths.Datum.{Datum}
 use Rattle.machine.specs.declared.widths.Datum.TheVariants.{U8, U16, U32}
 use Rattle.machine.specs.Widths.{bytes_of, width_of}
@@ -11,7 +11,7 @@ use Rattle.yard_steps.specs.Model.{Yard, at, mapped}
 use Rattle.yard_steps.specs.Steps.{put_datum}
 use Rattle.yard_steps.specs.Whole.{Whole}
 use Rattle.yard_steps.proofs.Below.{one_below}
-use Rattle.yard_steps.proofs.Puts.{put-elsewhere}
+use Rattle.yard_steps.proofs.Puts.{put_elsewhere}
 
 -- the width of an access is 1, 2 or 4
 widths : (x : Datum) → (bytes_of (width_of x) ≡ 1) ⊎ ((bytes_of (width_of x) ≡ 2) ⊎ (bytes_of (width_of x) ≡ 4))
@@ -32,7 +32,7 @@ module _ (y : Yard) (W : Whole y) (c : ℕ) (lt : c < y.count) where
   own a near m =
       let t = one_below y.count (λ k. inside (at y k).segment a) m in
       let j = t.0 in
-      let there = is-inside (at y j).segment a t.2 in
+      let there = is_inside (at y j).segment a t.2 in
       let top = (W.admitted j t.1).sound.fits in
       let below : a < 1048576 = (let u = there.1 in omega arith) in
       ⊎_elim (λ (e : c ≡ j). subst (λ n. Inside (at y n).segment a) (sym e) there)
@@ -49,5 +49,5 @@ module _ (y : Yard) (W : Whole y) (c : ℕ) (lt : c < y.count) where
       let ok = (W.admitted c lt).sound in
       ⊎_elim
       (λ h. subst (Inside s) (sym h.2) (whole s a ok.large ok.aligned (own a near m) (bytes_of (width_of x)) h.0 (widths x) even h.1))
-      (λ h. absurd (n (put-elsewhere bs a x k h)))
+      (λ h. absurd (n (put_elsewhere bs a x k h)))
       (among a (bytes_of (width_of x)) k)

@@ -65,15 +65,15 @@ module _ (y : Yard) (W : Whole y) (ds : List Domain) (cs : List ℕ) (p : Bool) 
     entries = λ g e h. let t = W.entries g e h in (t.0, subst (λ (q : Placed). InCode q e.pc) (sym (same e.domain t.0)) t.1);
   }
 
--- own-works, own-calling and own_alone are of the domain c, and works, calling and alone of the others, which are as they were
+-- own_works, own_calling and own_alone are of the domain c, and works, calling and alone of the others, which are as they were
 pub record Fit (y : Yard) (c : ℕ) (xs : List ℕ) (pc : ℕ) (s : State) (cs : List ℕ) (p : Bool) : Type 0 where
   pub confined : Confined (placed y c) xs pc
   pub ready : s ≡ Idle → Pointing (placed y c) xs
   pub chained : (n : ℕ) → n < length cs → get_or cs n 0 < y.count
-  pub own-works : (n : ℕ) → n < length cs → get_or cs n 0 ≡ c → s ≡ at_work p n
+  pub own_works : (n : ℕ) → n < length cs → get_or cs n 0 ≡ c → s ≡ at_work p n
   pub works : (n : ℕ) → n < length cs → (get_or cs n 0 ≡ c → ⊥) → (at y (get_or cs n 0)).state ≡ at_work p n
   pub distinct : (i j : ℕ) → i < length cs → j < length cs → get_or cs i 0 ≡ get_or cs j 0 → i ≡ j
-  pub own-calling : (n : ℕ) → n + 1 < length cs → get_or cs (n + 1) 0 ≡ c → Behind y.store pc
+  pub own_calling : (n : ℕ) → n + 1 < length cs → get_or cs (n + 1) 0 ≡ c → Behind y.store pc
   pub calling : (n : ℕ) → n + 1 < length cs → (get_or cs (n + 1) 0 ≡ c → ⊥) → Called y (get_or cs (n + 1) 0)
   pub own_alone : Working s → On cs c
   pub alone : (k : ℕ) → k < y.count → (k ≡ c → ⊥) → Working (at y k).state → On cs k
@@ -100,9 +100,9 @@ module _ (y : Yard) (W : Whole y) (c : ℕ) (lt : c < y.count) (xs : List ℕ) (
       (λ k l. each (λ j x. x.state ≡ Idle → Pointing (placed y j) x.registers) k (λ _. f.ready) (λ _. W.ready k l))
       (record {
         chained = f.chained;
-        works = λ n l. each (λ j x. x.state ≡ at_work p n) (get_or cs n 0) (f.own-works n l) (f.works n l);
+        works = λ n l. each (λ j x. x.state ≡ at_work p n) (get_or cs n 0) (f.own_works n l) (f.works n l);
         distinct = f.distinct;
-        calling = λ n l. each (λ j x. Behind y.store x.pc) (get_or cs (n + 1) 0) (f.own-calling n l) (f.calling n l);
+        calling = λ n l. each (λ j x. Behind y.store x.pc) (get_or cs (n + 1) 0) (f.own_calling n l) (f.calling n l);
         alone = λ k l. each (λ j x. Working x.state → On cs j) k (λ _. f.own_alone) (f.alone k l);
         asked = f.asked;
       })

@@ -19,15 +19,15 @@ use Rattle.machine.specs.Widths.{aligned}
 use Rattle.machine.specs.Accesses.{load_width, store_width}
 use Rattle.machine.specs.Executed.{linked, branched, loads, stores, executed}
 use Rattle.domain.specs.Confined.{place_of}
-use Rattle.domain.proofs.Places.{quad, place-lt, place_is}
+use Rattle.domain.proofs.Places.{quad, place_lt, place_is}
 use Rattle.yard_steps.specs.Model.{Yard, at}
 use Rattle.yard_steps.specs.Steps.{found, fetched}
 use Rattle.yard_steps.specs.Whole.{Whole, placed}
 
 module _ (y : Yard) (W : Whole y) (c : ℕ) (lt : c < y.count) where
   -- the word at the pc is that of the window
-  pub own-place : get_or y.store ((at y c).pc / 4) 0 ≡ get_or (placed y c).words (place_of (placed y c) (at y c).pc) 0
-  own-place =
+  pub own_place : get_or y.store ((at y c).pc / 4) 0 ≡ get_or (placed y c).words (place_of (placed y c) (at y c).pc) 0
+  own_place =
       let d = placed y c in
       let pc = (at y c).pc in
       let ok = W.admitted c lt in
@@ -35,11 +35,11 @@ module _ (y : Yard) (W : Whole y) (c : ℕ) (lt : c < y.count) where
       let q = quad d ok in
       let is = place_is d ok pc h in
       let here : pc / 4 ≡ d.base / 4 + place_of d pc = omega arith in
-      ap (λ n. get_or y.store n 0) here ∙ sym ((W.framed c lt).words (place_of d pc) (place-lt d ok pc h))
+      ap (λ n. get_or y.store n 0) here ∙ sym ((W.framed c lt).words (place_of d pc) (place_lt d ok pc h))
 
   -- so it is what is fetched
-  pub own-word : (i : Instruction) → word_at (placed y c).words (place_of (placed y c) (at y c).pc) ≡ Ok i → fetched y.store (at y c).pc ≡ Ok i
-  own-word i e =
+  pub own_word : (i : Instruction) → word_at (placed y c).words (place_of (placed y c) (at y c).pc) ≡ Ok i → fetched y.store (at y c).pc ≡ Ok i
+  own_word i e =
       let pc = (at y c).pc in
       let h = (W.confined c lt).place in
       let fr = W.framed c lt in
@@ -47,49 +47,49 @@ module _ (y : Yard) (W : Whole y) (c : ℕ) (lt : c < y.count) where
       let top = h.1 in
       let u = fr.inside in
       let v = fr.counts in
-      let test : (eqb (pc % 4) 0 && ltb (pc / 4) (counted y.store)) ≡ true = fetch-test pc (length y.store) low (omega arith) (omega arith) in
-      rw test (ap (λ x. found (get_or y.store (pc / 4) 0) x) (ap decoded own-place ∙ e))
+      let test : (eqb (pc % 4) 0 && ltb (pc / 4) (counted y.store)) ≡ true = fetch_test pc (length y.store) low (omega arith) (omega arith) in
+      rw test (ap (λ x. found (get_or y.store (pc / 4) 0) x) (ap decoded own_place ∙ e))
     where
-      fetch-test : (pc n : ℕ) → pc % 4 ≡ 0 → pc < 4 * n → pc < 65536 → (eqb (pc % 4) 0 && ltb (pc / 4) (min n 16384)) ≡ true
-      fetch-test pc n a b d = grind (arith, nat_tests)
+      fetch_test : (pc n : ℕ) → pc % 4 ≡ 0 → pc < 4 * n → pc < 65536 → (eqb (pc % 4) 0 && ltb (pc / 4) (min n 16384)) ≡ true
+      fetch_test pc n a b d = grind (arith, nat_tests)
 
 -- only an ECALL calls
 abbrev Uncalled : Effect → Type 0
 Uncalled e = e ≡ effect.Call → ⊥
 
-set-not : (rd v : ℕ) → Uncalled (effect.Set rd v)
-set-not rd v e = let z : ◌≡◌ {A = ℕ} 0 1 = cc in omega arith
+set_not : (rd v : ℕ) → Uncalled (effect.Set rd v)
+set_not rd v e = let z : ◌≡◌ {A = ℕ} 0 1 = cc in omega arith
 
-stop-not : (s : Stop) → Uncalled (effect.Stop s)
-stop-not s e = let z : ◌≡◌ {A = ℕ} 0 1 = cc in omega arith
+stop_not : (s : Stop) → Uncalled (effect.Stop s)
+stop_not s e = let z : ◌≡◌ {A = ℕ} 0 1 = cc in omega arith
 
-next-not : Uncalled effect.Next
-next-not e = let z : ◌≡◌ {A = ℕ} 0 1 = cc in omega arith
+next_not : Uncalled effect.Next
+next_not e = let z : ◌≡◌ {A = ℕ} 0 1 = cc in omega arith
 
-linked-not : (rd n t : ℕ) → Uncalled (linked rd n t)
-linked-not rd n t = cond_both (eqb (t % 4) 0) _ _ Uncalled (λ _ e. (let z : ◌≡◌ {A = ℕ} 0 1 = cc in omega arith)) (λ _. stop-not _)
+linked_not : (rd n t : ℕ) → Uncalled (linked rd n t)
+linked_not rd n t = cond_both (eqb (t % 4) 0) _ _ Uncalled (λ _ e. (let z : ◌≡◌ {A = ℕ} 0 1 = cc in omega arith)) (λ _. stop_not _)
 
-branched-not : (b : Bool) (t : ℕ) → Uncalled (branched b t)
-branched-not b t =
-    cond_both b _ _ Uncalled (λ _. cond_both (eqb (t % 4) 0) _ _ Uncalled (λ _ e. (let z : ◌≡◌ {A = ℕ} 0 1 = cc in omega arith)) (λ _. stop-not _)) (λ _. next-not)
+branched_not : (b : Bool) (t : ℕ) → Uncalled (branched b t)
+branched_not b t =
+    cond_both b _ _ Uncalled (λ _. cond_both (eqb (t % 4) 0) _ _ Uncalled (λ _ e. (let z : ◌≡◌ {A = ℕ} 0 1 = cc in omega arith)) (λ _. stop_not _)) (λ _. next_not)
 
-loads-not : (op : LoadOp) (rd a : ℕ) → Uncalled (loads op rd a)
-loads-not op rd a = cond_both (aligned (load_width op) a) _ _ Uncalled (λ _ e. (let z : ◌≡◌ {A = ℕ} 0 1 = cc in omega arith)) (λ _. stop-not _)
+loads_not : (op : LoadOp) (rd a : ℕ) → Uncalled (loads op rd a)
+loads_not op rd a = cond_both (aligned (load_width op) a) _ _ Uncalled (λ _ e. (let z : ◌≡◌ {A = ℕ} 0 1 = cc in omega arith)) (λ _. stop_not _)
 
-stores-not : (op : StoreOp) (a v : ℕ) → Uncalled (stores op a v)
-stores-not op a v = cond_both (aligned (store_width op) a) _ _ Uncalled (λ _ e. (let z : ◌≡◌ {A = ℕ} 0 1 = cc in omega arith)) (λ _. stop-not _)
+stores_not : (op : StoreOp) (a v : ℕ) → Uncalled (stores op a v)
+stores_not op a v = cond_both (aligned (store_width op) a) _ _ Uncalled (λ _ e. (let z : ◌≡◌ {A = ℕ} 0 1 = cc in omega arith)) (λ _. stop_not _)
 
-pub call-word : (i : Instruction) (xs : List ℕ) (pc : ℕ) → executed i xs pc ≡ effect.Call → i ≡ Ecall
-call-word (Lui rd imm) xs pc e = absurd (set-not _ _ e)
-call-word (Auipc rd imm) xs pc e = absurd (set-not _ _ e)
-call-word (Jal rd z) xs pc e = absurd (linked-not _ _ _ e)
-call-word (Jalr rd rs1 z) xs pc e = absurd (linked-not _ _ _ e)
-call-word (Branch k rs1 rs2 z) xs pc e = absurd (branched-not (is_taken k (value_of xs rs1) (value_of xs rs2)) (plus pc z) e)
-call-word (Load k rd rs1 z) xs pc e = absurd (loads-not _ _ _ e)
-call-word (Store k rs1 rs2 z) xs pc e = absurd (stores-not _ _ _ e)
-call-word (OpImm k rd rs1 z) xs pc e = absurd (set-not _ _ e)
-call-word (ShiftImm k rd rs1 n) xs pc e = absurd (set-not _ _ e)
-call-word (Op k rd rs1 rs2) xs pc e = absurd (set-not _ _ e)
-call-word Fence xs pc e = absurd (next-not e)
-call-word Ecall xs pc e = refl
-call-word Ebreak xs pc e = absurd (stop-not _ e)
+pub call_word : (i : Instruction) (xs : List ℕ) (pc : ℕ) → executed i xs pc ≡ effect.Call → i ≡ Ecall
+call_word (Lui rd imm) xs pc e = absurd (set_not _ _ e)
+call_word (Auipc rd imm) xs pc e = absurd (set_not _ _ e)
+call_word (Jal rd z) xs pc e = absurd (linked_not _ _ _ e)
+call_word (Jalr rd rs1 z) xs pc e = absurd (linked_not _ _ _ e)
+call_word (Branch k rs1 rs2 z) xs pc e = absurd (branched_not (is_taken k (value_of xs rs1) (value_of xs rs2)) (plus pc z) e)
+call_word (Load k rd rs1 z) xs pc e = absurd (loads_not _ _ _ e)
+call_word (Store k rs1 rs2 z) xs pc e = absurd (stores_not _ _ _ e)
+call_word (OpImm k rd rs1 z) xs pc e = absurd (set_not _ _ e)
+call_word (ShiftImm k rd rs1 n) xs pc e = absurd (set_not _ _ e)
+call_word (Op k rd rs1 rs2) xs pc e = absurd (set_not _ _ e)
+call_word Fence xs pc e = absurd (next_not e)
+call_word Ecall xs pc e = refl
+call_word Ebreak xs pc e = absurd (stop_not _ e)

@@ -3,7 +3,7 @@ use Rattle.std.proofs.lemmas.Result.{IfOk-weaker}
 use Rattle.std.specs.Option.{option_map}
 use Rattle.session.specs.Said.{plain}
 use Rattle.session.specs.Views.{view, spoken}
-use Rattle.session.proofs.Sayings.{said_more, yard-more}
+use Rattle.session.proofs.Sayings.{said_more, yard_more}
 use Rattle.session.proofs.performing.follow.Goals as goal
 
 pub returns-in-Yard : goal.returns-in-Yard
@@ -11,7 +11,7 @@ returns-in-Yard c =
     let ws = c.args.store.now in
     record {
       is = IfOk-weaker c.renew.result _ _
-          (λ _ e. yard-more (view c.args.session.now ws true) (view c.renew.new.self ws true) c.args.command.now c.in-Yard.size (spoken (vec_items c.args.answers.now)) c.in-Yard.is (e true))
+          (λ _ e. yard_more (view c.args.session.now ws true) (view c.renew.new.self ws true) c.args.command.now c.in-Yard.size (spoken (vec_items c.args.answers.now)) c.in-Yard.is (e true))
           c.renew.ensures.is;
     }
 

@@ -2,7 +2,7 @@ use Rattle.std.proofs.Common.{true, ◌++◌, vec_items, ◌∙◌}
 use Rattle.yard_steps.specs.Model.{new_yard}
 use Rattle.session.specs.Performed.{answers_of}
 use Rattle.session.specs.Views.{state_of, spoken, opening}
-use Rattle.session.proofs.Sayings.{then-under, from_place}
+use Rattle.session.proofs.Sayings.{then_under, from_place}
 use Rattle.session.proofs.performing.perform.Goals as goal
 
 pub returns : goal.returns
@@ -19,7 +19,7 @@ returns c =
     let a = c.new-answers.ensures.items in
     let b = c.new-code.ensures.items in
     record {
-      is = then-under g.yard n i g.memory g.policy code cs ts us _ c.in-Some.is
+      is = then_under g.yard n i g.memory g.policy code cs ts us _ c.in-Some.is
           (c.in_ok-follow_all.ensures.is ∙ (λ j. ts ++ answers_of (state_of g.memory g.policy (v j) true (new_yard (v j) n)) (w j)))
           (c.in_ok-memory.ensures.is ∙ (λ j. spoken (a j) ++ answers_of (opening (b j)) cs));
     }

@@ -1,7 +1,7 @@
 use Rattle.std.proofs.Common.{◌≡◌, ℕ, ◌+◌, false, ◌++◌, drop, vec_items, Option, subst, arith}
 use Rattle.session.specs.Performed.{answers_of}
 use Rattle.session.specs.Views.{view, spoken, or_yard}
-use Rattle.session.proofs.Sayings.{loop-more, loop-end}
+use Rattle.session.proofs.Sayings.{loop_more, loop_end}
 use Rattle.session.proofs.performing.prepare_each.Goals as goal
 use Rattle.session.proofs.performing.prepare_each.Goals.{In_ok-size}
 
@@ -13,7 +13,7 @@ Kept c o =
 
 kept : (c : In_ok-size) → Kept c c.in_ok-size.field-0
 kept c =
-    loop-more c.args.commands.now c.loop-i.i c.index-commands-i.result (view c.loop-i.session (vec_items c.loop-i.code) false)
+    loop_more c.args.commands.now c.loop-i.i c.index-commands-i.result (view c.loop-i.session (vec_items c.loop-i.code) false)
     (or_yard c.in_ok-size.field-0 (view c.prepare.new.session (vec_items c.prepare.new.code) false)) (spoken (vec_items c.loop-i.answers))
     (spoken (vec_items c.prepare.new.answers)) _ c.loop-i-test.true c.index-commands-i.is c.in_ok-size.ensures.is c.loop-i.invariant
 
@@ -28,6 +28,6 @@ loop-i-preserved c = let d = (goal.at.loop-i-preserved c).In_ok-size in subst (K
 pub returns : goal.returns
 returns c =
     record {
-      is = loop-end c.args.commands.now c.loop-i.i (view c.loop-i.session (vec_items c.loop-i.code) false) (spoken (vec_items c.loop-i.answers)) _ c.loop-i-test.false c.loop-i.invariant;
+      is = loop_end c.args.commands.now c.loop-i.i (view c.loop-i.session (vec_items c.loop-i.code) false) (spoken (vec_items c.loop-i.answers)) _ c.loop-i-test.false c.loop-i.invariant;
       within = tt;
     }

@@ -1,12 +1,12 @@
 use Rattle.std.proofs.Common.{◌+◌, refl, arith}
 use Rattle.std.proofs.lemmas.Bool.{cond_above}
-use Rattle.memories.proofs.Cuts.{counted-length, counted-word}
+use Rattle.memories.proofs.Cuts.{counted_length, counted_word}
 use Rattle.memories.proofs.flat.FlatMemory.read_word.Goals as goal
 
 pub returns-then-i-counted : goal.returns-then-i-counted
 returns-then-i-counted c =
-    record { is = counted-word c.args.self.now.buffer.now c.args.address c.word.result (omega (arith, c.counted.ensures.is)) c.word.ensures.is }
+    record { is = counted_word c.args.self.now.buffer.now c.args.address c.word.result (omega (arith, c.counted.ensures.is)) c.word.ensures.is }
 
 pub returns-else-i-counted : goal.returns-else-i-counted
 returns-else-i-counted c =
-    record { is = cond_above (c.args.address + 3) _ _ _ _ (omega (arith, c.counted.ensures.is, counted-length c.args.self.now.buffer.now)) refl }
+    record { is = cond_above (c.args.address + 3) _ _ _ _ (omega (arith, c.counted.ensures.is, counted_length c.args.self.now.buffer.now)) refl }

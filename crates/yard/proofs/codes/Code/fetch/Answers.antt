@@ -1,5 +1,5 @@
 use Rattle.std.proofs.Common.{vec_items, sym, ◌∙◌, arith}
-use Rattle.yard.proofs.Words.{cells-length, past, within}
+use Rattle.yard.proofs.Words.{cells_length, past, within}
 use Rattle.yard.proofs.codes.Code.fetch.Goals as goal
 
 pub returns-then-i-len : goal.returns-then-i-len
@@ -10,7 +10,7 @@ returns-then-i-len c =
 pub bounds-self-i : goal.bounds-self-i
 bounds-self-i c =
     let y = c.args.self.now in
-    omega (arith, y.cells.ok.0, cells-length y.store.now (vec_items y.cells) y.decoded)
+    omega (arith, y.cells.ok.0, cells_length y.store.now (vec_items y.cells) y.decoded)
 
 pub returns-in-Ok : goal.returns-in-Ok
 returns-in-Ok c =

@@ -1,6 +1,6 @@
 use Rattle.std.proofs.Common.{refl, ◌∙◌}
 use Rattle.yard.specs.Views.{view}
-use Rattle.yard.proofs.Turns.{fetch-stops}
+use Rattle.yard.proofs.Turns.{fetch_stops}
 use Rattle.yard.proofs.inners.Inner.step.Goals as goal
 
 pub returns-in-Err : goal.returns-in-Err
@@ -8,6 +8,6 @@ returns-in-Err g c =
     let bs = g.M.Memory.bytes c.args.memory.now in
     record {
       is = c.halt.ensures bs
-          ∙ fetch-stops (g.P.Policy.allowed c.args.policy.now) (view c.args.self.now) bs _ _ _ c.current-i.ensures.is c.pc.ensures c.in-Err.ensures;
+          ∙ fetch_stops (g.P.Policy.allowed c.args.policy.now) (view c.args.self.now) bs _ _ _ c.current-i.ensures.is c.pc.ensures c.in-Err.ensures;
       lent = refl;
     }

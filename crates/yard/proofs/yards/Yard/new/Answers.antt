@@ -1,7 +1,7 @@
 use Rattle.std.proofs.Common.{sym, subst}
 use Rattle.yard_steps.specs.Whole.{Whole}
-use Rattle.yard_steps.proofs.Hosts.{new-whole}
+use Rattle.yard_steps.proofs.Hosts.{new_whole}
 use Rattle.yard.proofs.yards.Yard.new.Goals as goal
 
 pub invariant_of-result : goal.invariant_of-result
-invariant_of-result c = record { whole = ∣ subst Whole (sym c.in_ok-inner.ensures) (new-whole c.args.store.now c.args.size) ∣₁ }
+invariant_of-result c = record { whole = ∣ subst Whole (sym c.in_ok-inner.ensures) (new_whole c.args.store.now c.args.size) ∣₁ }

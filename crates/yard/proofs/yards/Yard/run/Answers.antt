@@ -7,8 +7,8 @@ use Rattle.yard_steps.specs.Calls.{Running, or_refused}
 use Rattle.yard_steps.proofs.Fenced.{fence}
 use Rattle.yard_steps.proofs.Runs.{runnable}
 use Rattle.yard.specs.Yards.{seen}
-use Rattle.yard.proofs.Props.{goes-prop}
-use Rattle.yard.proofs.Running.{while-pending, none-active, other-size, taken}
+use Rattle.yard.proofs.Props.{goes_prop}
+use Rattle.yard.proofs.Running.{while_pending, none_active, other_size, taken}
 use Rattle.yard.proofs.yards.Yard.run.Goals as goal
 
 pub returns-then-is_pending : goal.returns-then-is_pending
@@ -18,7 +18,7 @@ returns-then-is_pending g c =
     let bs = g.M.Memory.bytes c.args.memory.now in
     let k = c.args.budget in
     record {
-      is = sym (ap (λ (o : Option Refusal). or_refused o y bs (ran A k 0 y bs)) (while-pending y bs (sym c.is_pending.ensures ∙ c.if-is_pending.true)));
+      is = sym (ap (λ (o : Option Refusal). or_refused o y bs (ran A k 0 y bs)) (while_pending y bs (sym c.is_pending.ensures ∙ c.if-is_pending.true)));
       lent = refl;
       token = tt;
       fenced = ∥∥₁_map c.args.self.now.whole (λ h. fence A k y bs h);
@@ -33,7 +33,7 @@ returns-then-not-has_active g c =
     record {
       is = sym
           (ap (λ (o : Option Refusal). or_refused o y bs (ran A k 0 y bs))
-          (none-active y bs (sym c.is_pending.ensures ∙ c.if-is_pending.false) (sym c.has_active.ensures ∙ c.if-not-has_active.true)));
+          (none_active y bs (sym c.is_pending.ensures ∙ c.if-is_pending.false) (sym c.has_active.ensures ∙ c.if-not-has_active.true)));
       lent = refl;
       token = tt;
       fenced = ∥∥₁_map c.args.self.now.whole (λ h. fence A k y bs h);
@@ -48,7 +48,7 @@ returns-then-size g c =
     record {
       is = sym
           (ap (λ (o : Option Refusal). or_refused o y bs (ran A k 0 y bs))
-          (other-size y bs (sym c.is_pending.ensures ∙ c.if-is_pending.false) (sym c.has_active.ensures ∙ c.if-not-has_active.false)
+          (other_size y bs (sym c.is_pending.ensures ∙ c.if-is_pending.false) (sym c.has_active.ensures ∙ c.if-not-has_active.false)
           (λ e. c.if-size.true (c.size.ensures.is ∙ (e ∙ sym c.size-2.ensures)))));
       lent = refl;
       token = tt;
@@ -59,7 +59,7 @@ pub run_on-requires : goal.run_on-requires
 run_on-requires g c =
     let y = seen c.args.self.now in
     let bs = g.M.Memory.bytes c.args.memory.now in
-    ∥∥₁_elim c.args.self.now.whole (goes-prop y)
+    ∥∥₁_elim c.args.self.now.whole (goes_prop y)
     (λ h.
     let t = runnable y bs h
     (taken y bs (sym c.is_pending.ensures ∙ c.if-is_pending.false) (sym c.has_active.ensures ∙ c.if-not-has_active.false)

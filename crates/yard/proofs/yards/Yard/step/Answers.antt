@@ -7,7 +7,7 @@ use Rattle.yard_steps.proofs.Outcomes.{outcome}
 use Rattle.yard.specs.Views.{view}
 use Rattle.yard.specs.Yards.{GoesOn}
 use Rattle.yard.proofs.Room.{ready}
-use Rattle.yard.proofs.Props.{ready_prop, goes-prop}
+use Rattle.yard.proofs.Props.{ready_prop, goes_prop}
 use Rattle.yard.proofs.yards.Yard.step.Goals as goal
 
 pub step-requires : goal.step-requires
@@ -30,7 +30,7 @@ returns g c =
     record {
       is = c.step.ensures.is;
       lent = c.step.ensures.lent;
-      on = λ e. ∥∥₁_elim y.whole (goes-prop _)
+      on = λ e. ∥∥₁_elim y.whole (goes_prop _)
           (λ h.
           let o = (outcome A (view y.inner) h c.requires.some c.requires.free bs).goes (sym (ap (λ (a : After). a.ended) c.step.ensures.is) ∙ e) in
           subst GoesOn (sym (ap (λ (a : After). a.yard) c.step.ensures.is)) (record { some = o.0; free = o.1 }));
