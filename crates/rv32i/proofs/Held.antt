@@ -11,7 +11,7 @@ use Rattle.rv32i.specs.Table.{major7, branch3, branch_at, load3, load_at, store3
 use Rattle.rv32i.specs.Listing.{Holds}
 use Rattle.rv32i.specs.Decoded.{decoded, decoded_as, op_imm_by, named}
 use Rattle.rv32i.specs.Encoded.{encoded}
-use Rattle.rv32i.proofs.Rows.{branch_at-branch3, load_at_load3, store_at_store3, imm_at_imm3, shift_at-shift3, shift_not_imm, reg_at-reg3, branch_from, load_from, store_from, imm_from, shift_from, reg_from, named_at, named_from, decoded_at, decoded_from}
+use Rattle.rv32i.proofs.Rows.{branch_at-branch3, load_at-load3, store_at-store3, imm_at-imm3, shift_at-shift3, shift_not_imm, reg_at-reg3, branch_from, load_from, store_from, imm_from, shift_from, reg_from, named_at, named_from, decoded_at, decoded_from}
 use Rattle.rv32i.proofs.Formed.{from_r, from_i, from_s, from_b, from_u, from_j}
 use Rattle.rv32i.proofs.Remade.{into_r, into_i, into_s, into_b, into_u, into_j}
 use Rattle.rv32i.proofs.Groups.{Grouped, grouped}
@@ -22,9 +22,9 @@ grouped_decodes w (Auipc rd z) h = decoded_at auipc w h.0 ∙ (cc)
 grouped_decodes w (Jal rd z) h = decoded_at jal w h.0 ∙ (cc)
 grouped_decodes w (Jalr rd rs1 z) h = decoded_at jalr w h.0 ∙ rw h.1 (cc)
 grouped_decodes w (Branch k rs1 rs2 z) h = decoded_at branch w h.0 ∙ named_at Funct3 _ k _ (ap branch_at h.1 ∙ branch_at-branch3 k) ∙ (cc)
-grouped_decodes w (Load k rd rs1 z) h = decoded_at load w h.0 ∙ named_at Funct3 _ k _ (ap load_at h.1 ∙ load_at_load3 k) ∙ (cc)
-grouped_decodes w (Store k rs1 rs2 z) h = decoded_at store w h.0 ∙ named_at Funct3 _ k _ (ap store_at h.1 ∙ store_at_store3 k) ∙ (cc)
-grouped_decodes w (OpImm k rd rs1 z) h = decoded_at op_imm w h.0 ∙ ap (λ o. op_imm_by o w) (ap imm_at h.1 ∙ imm_at_imm3 k) ∙ (cc)
+grouped_decodes w (Load k rd rs1 z) h = decoded_at load w h.0 ∙ named_at Funct3 _ k _ (ap load_at h.1 ∙ load_at-load3 k) ∙ (cc)
+grouped_decodes w (Store k rs1 rs2 z) h = decoded_at store w h.0 ∙ named_at Funct3 _ k _ (ap store_at h.1 ∙ store_at-store3 k) ∙ (cc)
+grouped_decodes w (OpImm k rd rs1 z) h = decoded_at op_imm w h.0 ∙ ap (λ o. op_imm_by o w) (ap imm_at h.1 ∙ imm_at-imm3 k) ∙ (cc)
 grouped_decodes w (ShiftImm k rd rs1 shamt) h =
     let t : shift_at (funct3_of w) (funct7_of w) ≡ Some k = rw (h.1, h.2) (shift_at-shift3 k) in
     decoded_at op_imm w h.0 ∙ ap (λ o. op_imm_by o w) (ap imm_at h.1 ∙ shift_not_imm k) ∙ named_at Funct7 _ k _ t ∙ (cc)

@@ -20,14 +20,14 @@ some_not_none o a p q = let z : ◌≡◌ {A = ℕ} 0 1 = cc in absurd (omega ar
 pub branch_at-branch3 : (k : BranchOp) → branch_at (branch3 k) ≡ Some k
 branch_at-branch3 k = search arith
 
-pub load_at_load3 : (k : LoadOp) → load_at (load3 k) ≡ Some k
-load_at_load3 k = search arith
+pub load_at-load3 : (k : LoadOp) → load_at (load3 k) ≡ Some k
+load_at-load3 k = search arith
 
-pub store_at_store3 : (k : StoreOp) → store_at (store3 k) ≡ Some k
-store_at_store3 k = search arith
+pub store_at-store3 : (k : StoreOp) → store_at (store3 k) ≡ Some k
+store_at-store3 k = search arith
 
-pub imm_at_imm3 : (k : ImmOp) → imm_at (imm3 k) ≡ Some k
-imm_at_imm3 k = search arith
+pub imm_at-imm3 : (k : ImmOp) → imm_at (imm3 k) ≡ Some k
+imm_at-imm3 k = search arith
 
 pub shift_at-shift3 : (k : ShiftOp) → shift_at (shift3 k) (shift7 k) ≡ Some k
 shift_at-shift3 k = search arith
