@@ -5,7 +5,7 @@ lemmas, fields and antt's constructors, and upper camel case for a type.
 usage: python3 tools/respell.py [--table]      at the top of the repository, once, after the kit's port.py
 
 --table prints each old name beside the new one, and writes nothing. It stops, with nothing written, where two names would fall
-together, or a new name is one that a file has already.
+together; where a new name stands already in a file of the old one, it says so.
 """
 import pathlib
 import re
