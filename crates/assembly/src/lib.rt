@@ -74,7 +74,7 @@ fn guess_based(name: &str, first: u8, second: &str) -> Option<Instruction> {
             offset,
         });
     }
-    if let Some(op) = load(name) {
+    if let Ok(op) = name.parse::<LoadOp>() {
         return Some(Instruction::Load {
             op,
             rd: first,
@@ -83,7 +83,7 @@ fn guess_based(name: &str, first: u8, second: &str) -> Option<Instruction> {
         });
     }
     Some(Instruction::Store {
-        op: store(name)?,
+        op: name.parse::<StoreOp>().ok()?,
         rs1,
         rs2: first,
         offset,
@@ -91,7 +91,7 @@ fn guess_based(name: &str, first: u8, second: &str) -> Option<Instruction> {
 }
 
 fn guess_three(name: &str, first: u8, second: u8, third: &str) -> Option<Instruction> {
-    if let Some(op) = branch(name) {
+    if let Ok(op) = name.parse::<BranchOp>() {
         return Some(Instruction::Branch {
             op,
             rs1: first,
@@ -99,7 +99,7 @@ fn guess_three(name: &str, first: u8, second: u8, third: &str) -> Option<Instruc
             offset: signed(third)?,
         });
     }
-    if let Some(op) = imm(name) {
+    if let Ok(op) = name.parse::<ImmOp>() {
         return Some(Instruction::OpImm {
             op,
             rd: first,
@@ -107,7 +107,7 @@ fn guess_three(name: &str, first: u8, second: u8, third: &str) -> Option<Instruc
             imm: signed(third)?,
         });
     }
-    if let Some(op) = shift(name) {
+    if let Ok(op) = name.parse::<ShiftOp>() {
         return Some(Instruction::ShiftImm {
             op,
             rd: first,
@@ -116,7 +116,7 @@ fn guess_three(name: &str, first: u8, second: u8, third: &str) -> Option<Instruc
         });
     }
     Some(Instruction::Op {
-        op: reg(name)?,
+        op: name.parse::<RegOp>().ok()?,
         rd: first,
         rs1: second,
         rs2: register(third)?,
@@ -138,78 +138,5 @@ fn hexadecimal(text: &str) -> Option<u32> {
 // An immediate that is written by its upper twenty bits.
 fn upper(text: &str) -> Option<i32> {
     let high = hexadecimal(text)?;
-    if high < 1 << 20 {
-        Some((high << 12).cast_signed())
-    } else {
-        None
-    }
-}
-
-fn branch(name: &str) -> Option<BranchOp> {
-    match name {
-        "beq" => Some(BranchOp::Beq),
-        "bne" => Some(BranchOp::Bne),
-        "blt" => Some(BranchOp::Blt),
-        "bge" => Some(BranchOp::Bge),
-        "bltu" => Some(BranchOp::Bltu),
-        "bgeu" => Some(BranchOp::Bgeu),
-        _ => None,
-    }
-}
-
-fn load(name: &str) -> Option<LoadOp> {
-    match name {
-        "lb" => Some(LoadOp::Lb),
-        "lh" => Some(LoadOp::Lh),
-        "lw" => Some(LoadOp::Lw),
-        "lbu" => Some(LoadOp::Lbu),
-        "lhu" => Some(LoadOp::Lhu),
-        _ => None,
-    }
-}
-
-fn store(name: &str) -> Option<StoreOp> {
-    match name {
-        "sb" => Some(StoreOp::Sb),
-        "sh" => Some(StoreOp::Sh),
-        "sw" => Some(StoreOp::Sw),
-        _ => None,
-    }
-}
-
-fn imm(name: &str) -> Option<ImmOp> {
-    match name {
-        "addi" => Some(ImmOp::Addi),
-        "slti" => Some(ImmOp::Slti),
-        "sltiu" => Some(ImmOp::Sltiu),
-        "xori" => Some(ImmOp::Xori),
-        "ori" => Some(ImmOp::Ori),
-        "andi" => Some(ImmOp::Andi),
-        _ => None,
-    }
-}
-
-fn shift(name: &str) -> Option<ShiftOp> {
-    match name {
-        "slli" => Some(ShiftOp::Slli),
-        "srli" => Some(ShiftOp::Srli),
-        "srai" => Some(ShiftOp::Srai),
-        _ => None,
-    }
-}
-
-fn reg(name: &str) -> Option<RegOp> {
-    match name {
-        "add" => Some(RegOp::Add),
-        "sub" => Some(RegOp::Sub),
-        "sll" => Some(RegOp::Sll),
-        "slt" => Some(RegOp::Slt),
-        "sltu" => Some(RegOp::Sltu),
-        "xor" => Some(RegOp::Xor),
-        "srl" => Some(RegOp::Srl),
-        "sra" => Some(RegOp::Sra),
-        "or" => Some(RegOp::Or),
-        "and" => Some(RegOp::And),
-        _ => None,
-    }
+    (high < 1 << 20).then_some((high << 12).cast_signed())
 }

@@ -8,4 +8,4 @@ pub mod Held
 mod Below32
 mod Fitting
 mod Refused
-mod Hex
+pub mod Hex

@@ -3,6 +3,8 @@
 --   x3 op, x7 op    funct3 and funct7 of an operation of the group x
 --   x_at f, x_at f g  the operation of the group x that has these codes, if any
 use Rattle.std.specs.Prelude.{ℕ, Bool, cond, ◌&&◌, List, [], ◌∷◌, Some, None, Option, ◌==◌, nat_eq}
+pub use Rattle.rv32i.specs.declared.opcodes.Opcode.{Opcode as Major}
+pub use Rattle.rv32i.specs.declared.opcodes.Opcode.TheVariants.{Lui as lui, Auipc as auipc, Jal as jal, Jalr as jalr, Branch as branch, Load as load, Store as store, OpImm as op_imm, Op as op, MiscMem as misc_mem, System as system}
 use Rattle.rv32i.specs.declared.operations.BranchOp.{BranchOp}
 use Rattle.rv32i.specs.declared.operations.BranchOp.TheVariants.{Beq, Bne, Blt, Bge, Bltu, Bgeu}
 use Rattle.rv32i.specs.declared.operations.LoadOp.{LoadOp}
@@ -15,19 +17,6 @@ use Rattle.rv32i.specs.declared.operations.ShiftOp.{ShiftOp}
 use Rattle.rv32i.specs.declared.operations.ShiftOp.TheVariants.{Slli, Srli, Srai}
 use Rattle.rv32i.specs.declared.operations.RegOp.{RegOp}
 use Rattle.rv32i.specs.declared.operations.RegOp.TheVariants.{Add, Sub, Sll, Slt, Sltu, Xor, Srl, Sra, Or, And}
-
-pub data Major : Type 0 where
-  lui : Major
-  auipc : Major
-  jal : Major
-  jalr : Major
-  branch : Major
-  load : Major
-  store : Major
-  op_imm : Major
-  op : Major
-  misc_mem : Major
-  system : Major
 
 abbrev pub major7 : Major → ℕ
 major7 lui = 0x37

@@ -1,8 +1,9 @@
 -- The text of an instruction: the GNU assembler's form, without aliases and with numbered registers. Assumes nothing.
 --   hexadecimal n   n in small hexadecimal digits, with no zeros in front; at most eight digits
 --   x_name op        the mnemonic of an operation of the group x
+--   ReadsName n t r  r is the operation whose name by n is t, or an error where none has it
 --   text_of i        the text of i, such as: addi x1,x0,-1
-use Rattle.std.specs.Prelude.{ℕ, zero, suc, ◌/◌, ◌%◌, ◌^◌, false, cond, List, [], ◌∷◌, ◌++◌, ℤ, codes, decimal, nat_lt}
+use Rattle.std.specs.Prelude.{◌≡◌, ◌≢◌, ℕ, zero, suc, ◌/◌, ◌%◌, ◌^◌, false, cond, List, [], ◌∷◌, ◌++◌, ℤ, Result, MatchResult, codes, decimal, nat_lt}
 use Rattle.std.specs.Fmt.{signed_decimal, digit_glyph}
 use Rattle.rv32i.specs.declared.operations.BranchOp.{BranchOp}
 use Rattle.rv32i.specs.declared.operations.BranchOp.TheVariants.{Beq, Bne, Blt, Bge, Bltu, Bgeu}
@@ -72,6 +73,10 @@ reg_name Srl = codes "srl"
 reg_name Sra = codes "sra"
 reg_name Or = codes "or"
 reg_name And = codes "and"
+
+-- r is an operation of this name, or an error where no operation has it
+abbrev pub ReadsName : {A E : Type 0} → (A → List ℕ) → List ℕ → Result A E → Type 0
+ReadsName {A = A} name text r = MatchResult r (λ op. name op ≡ text) (λ _. (op : A) → name op ≢ text)
 
 -- the upper twenty bits of an immediate
 abbrev pub upper : ℤ → ℕ

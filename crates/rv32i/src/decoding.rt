@@ -5,6 +5,7 @@ ghost use Rattle.rv32i.specs.Laws.{HoldsExactly, EncodesAgain, CauseOfTable, Reg
 use crate::causes::Cause;
 use crate::fields::{funct3, funct7, imm_b, imm_i, imm_j, imm_s, imm_u, opcode, rd, rs1, rs2};
 use crate::instructions::Instruction;
+use crate::opcodes::Opcode;
 use crate::operations::{BranchOp, ImmOp, LoadOp, RegOp, ShiftOp, StoreOp};
 
 // The instruction that a word holds, or why it holds none.
@@ -25,99 +26,90 @@ fn instruction_of(word: u32) -> Result<Instruction, Cause>
     let rd = rd(word);
     let rs1 = rs1(word);
     let rs2 = rs2(word);
-    match opcode(word) {
-        0x37 => Ok(Instruction::Lui {
+    match Opcode::try_from(opcode(word))? {
+        Opcode::Lui => Ok(Instruction::Lui {
             rd,
             imm: imm_u(word),
         }),
-        0x17 => Ok(Instruction::Auipc {
+        Opcode::Auipc => Ok(Instruction::Auipc {
             rd,
             imm: imm_u(word),
         }),
-        0x6F => Ok(Instruction::Jal {
+        Opcode::Jal => Ok(Instruction::Jal {
             rd,
             offset: imm_j(word),
         }),
-        0x67 => {
-            if funct3(word) == 0 {
-                Ok(Instruction::Jalr {
-                    rd,
-                    rs1,
-                    offset: imm_i(word),
-                })
-            } else {
-                Err(Cause::Funct3)
-            }
-        }
-        0x63 => match BranchOp::from_funct3(funct3(word)) {
-            Some(op) => Ok(Instruction::Branch {
-                op,
-                rs1,
-                rs2,
-                offset: imm_b(word),
-            }),
-            None => Err(Cause::Funct3),
-        },
-        0x03 => match LoadOp::from_funct3(funct3(word)) {
-            Some(op) => Ok(Instruction::Load {
-                op,
+        Opcode::Jalr => match funct3(word) {
+            0 => Ok(Instruction::Jalr {
                 rd,
                 rs1,
                 offset: imm_i(word),
             }),
-            None => Err(Cause::Funct3),
+            _ => Err(Cause::Funct3),
         },
-        0x23 => match StoreOp::from_funct3(funct3(word)) {
-            Some(op) => Ok(Instruction::Store {
+        Opcode::Branch => {
+            let op = BranchOp::from_funct3(funct3(word)).ok_or(Cause::Funct3)?;
+            Ok(Instruction::Branch {
+                op,
+                rs1,
+                rs2,
+                offset: imm_b(word),
+            })
+        }
+        Opcode::Load => {
+            let op = LoadOp::from_funct3(funct3(word)).ok_or(Cause::Funct3)?;
+            Ok(Instruction::Load {
+                op,
+                rd,
+                rs1,
+                offset: imm_i(word),
+            })
+        }
+        Opcode::Store => {
+            let op = StoreOp::from_funct3(funct3(word)).ok_or(Cause::Funct3)?;
+            Ok(Instruction::Store {
                 op,
                 rs1,
                 rs2,
                 offset: imm_s(word),
-            }),
-            None => Err(Cause::Funct3),
-        },
-        0x13 => op_imm_of(word),
-        0x33 => match RegOp::from_functs(funct3(word), funct7(word)) {
-            Some(op) => Ok(Instruction::Op { op, rd, rs1, rs2 }),
-            None => Err(Cause::Funct7),
-        },
-        0x0F => {
-            if funct3(word) == 0 {
-                Ok(Instruction::Fence)
-            } else {
-                Err(Cause::Funct3)
-            }
+            })
         }
-        0x73 => match word {
+        Opcode::OpImm => op_imm_of(word),
+        Opcode::Op => {
+            let op = RegOp::from_functs(funct3(word), funct7(word)).ok_or(Cause::Funct7)?;
+            Ok(Instruction::Op { op, rd, rs1, rs2 })
+        }
+        Opcode::MiscMem => match funct3(word) {
+            0 => Ok(Instruction::Fence),
+            _ => Err(Cause::Funct3),
+        },
+        Opcode::System => match word {
             0x00000073 => Ok(Instruction::Ecall),
             0x00100073 => Ok(Instruction::Ebreak),
             _ => Err(Cause::System),
         },
-        _ => Err(Cause::Opcode),
     }
 }
 
-// Opcode 0x13: funct3 names an operation with an immediate, or else, with funct7, a shift.
+// Opcode OP-IMM: funct3 names an operation with an immediate, or else, with funct7, a shift.
 fn op_imm_of(word: u32) -> Result<Instruction, Cause>
     ensures { result ≡ op_imm_of word }
 {
     let rd = rd(word);
     let rs1 = rs1(word);
-    match ImmOp::from_funct3(funct3(word)) {
-        Some(op) => Ok(Instruction::OpImm {
+    if let Some(op) = ImmOp::from_funct3(funct3(word)) {
+        return Ok(Instruction::OpImm {
             op,
             rd,
             rs1,
             imm: imm_i(word),
-        }),
-        None => match ShiftOp::from_functs(funct3(word), funct7(word)) {
-            Some(op) => Ok(Instruction::ShiftImm {
-                op,
-                rd,
-                rs1,
-                shamt: rs2(word),
-            }),
-            None => Err(Cause::Funct7),
-        },
+        });
     }
+    let op = ShiftOp::from_functs(funct3(word), funct7(word)).ok_or(Cause::Funct7)?;
+    Ok(Instruction::ShiftImm {
+        op,
+        rd,
+        rs1,
+        shamt: rs2(word),
+    })
 }

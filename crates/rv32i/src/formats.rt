@@ -1,12 +1,21 @@
 // The word of each format, or `None` where a register or the immediate has no such form.
 ghost use Rattle.std.specs.Prelude.{◌≡◌, ◌<◌};
 ghost use Rattle.rv32i.specs.Encoded.{form_r, form_i, form_s, form_b, form_u, form_j};
+ghost use Rattle.rv32i.specs.Table.{major7};
 
 use crate::fields::field;
+use crate::opcodes::Opcode;
 
-pub(crate) fn form_r(opcode: u32, rd: u8, funct3: u32, rs1: u8, rs2: u8, funct7: u32) -> Option<u32>
-    requires { (opcode < 128) × ((funct3 < 8) × (funct7 < 128)) }
-    ensures { result ≡ form_r opcode rd funct3 rs1 rs2 funct7 }
+pub(crate) fn form_r(
+    opcode: Opcode,
+    rd: u8,
+    funct3: u32,
+    rs1: u8,
+    rs2: u8,
+    funct7: u32,
+) -> Option<u32>
+    requires { (funct3 < 8) × (funct7 < 128) }
+    ensures { result ≡ form_r (major7 opcode) rd funct3 rs1 rs2 funct7 }
 {
     if rd > 31 || rs1 > 31 || rs2 > 31 {
         return None;
@@ -17,24 +26,30 @@ pub(crate) fn form_r(opcode: u32, rd: u8, funct3: u32, rs1: u8, rs2: u8, funct7:
             + (u32::from(rs1) << 15)
             + (funct3 << 12)
             + (u32::from(rd) << 7)
-            + opcode,
+            + opcode.code(),
     )
 }
 
-pub(crate) fn form_i(opcode: u32, rd: u8, funct3: u32, rs1: u8, imm: i32) -> Option<u32>
-    requires { (opcode < 128) × (funct3 < 8) }
-    ensures { result ≡ form_i opcode rd funct3 rs1 imm }
+pub(crate) fn form_i(opcode: Opcode, rd: u8, funct3: u32, rs1: u8, imm: i32) -> Option<u32>
+    requires { funct3 < 8 }
+    ensures { result ≡ form_i (major7 opcode) rd funct3 rs1 imm }
 {
     if rd > 31 || rs1 > 31 || imm < -2048 || imm > 2047 {
         return None;
     }
     let raw = imm.cast_unsigned() % 4096;
-    Some((raw << 20) + (u32::from(rs1) << 15) + (funct3 << 12) + (u32::from(rd) << 7) + opcode)
+    Some(
+        (raw << 20)
+            + (u32::from(rs1) << 15)
+            + (funct3 << 12)
+            + (u32::from(rd) << 7)
+            + opcode.code(),
+    )
 }
 
-pub(crate) fn form_s(opcode: u32, funct3: u32, rs1: u8, rs2: u8, imm: i32) -> Option<u32>
-    requires { (opcode < 128) × (funct3 < 8) }
-    ensures { result ≡ form_s opcode funct3 rs1 rs2 imm }
+pub(crate) fn form_s(opcode: Opcode, funct3: u32, rs1: u8, rs2: u8, imm: i32) -> Option<u32>
+    requires { funct3 < 8 }
+    ensures { result ≡ form_s (major7 opcode) funct3 rs1 rs2 imm }
 {
     if rs1 > 31 || rs2 > 31 || imm < -2048 || imm > 2047 {
         return None;
@@ -46,13 +61,13 @@ pub(crate) fn form_s(opcode: u32, funct3: u32, rs1: u8, rs2: u8, imm: i32) -> Op
             + (u32::from(rs1) << 15)
             + (funct3 << 12)
             + (field(raw, 4, 0) << 7)
-            + opcode,
+            + opcode.code(),
     )
 }
 
-pub(crate) fn form_b(opcode: u32, funct3: u32, rs1: u8, rs2: u8, imm: i32) -> Option<u32>
-    requires { (opcode < 128) × (funct3 < 8) }
-    ensures { result ≡ form_b opcode funct3 rs1 rs2 imm }
+pub(crate) fn form_b(opcode: Opcode, funct3: u32, rs1: u8, rs2: u8, imm: i32) -> Option<u32>
+    requires { funct3 < 8 }
+    ensures { result ≡ form_b (major7 opcode) funct3 rs1 rs2 imm }
 {
     let raw = imm.cast_unsigned();
     if rs1 > 31 || rs2 > 31 || imm < -4096 || imm > 4095 || raw % 2 != 0 {
@@ -66,24 +81,22 @@ pub(crate) fn form_b(opcode: u32, funct3: u32, rs1: u8, rs2: u8, imm: i32) -> Op
             + (funct3 << 12)
             + (field(raw, 4, 1) << 8)
             + (field(raw, 11, 11) << 7)
-            + opcode,
+            + opcode.code(),
     )
 }
 
-pub(crate) fn form_u(opcode: u32, rd: u8, imm: i32) -> Option<u32>
-    requires { opcode < 128 }
-    ensures { result ≡ form_u opcode rd imm }
+pub(crate) fn form_u(opcode: Opcode, rd: u8, imm: i32) -> Option<u32>
+    ensures { result ≡ form_u (major7 opcode) rd imm }
 {
     let raw = imm.cast_unsigned();
     if rd > 31 || raw % 4096 != 0 {
         return None;
     }
-    Some((field(raw, 31, 12) << 12) + (u32::from(rd) << 7) + opcode)
+    Some((field(raw, 31, 12) << 12) + (u32::from(rd) << 7) + opcode.code())
 }
 
-pub(crate) fn form_j(opcode: u32, rd: u8, imm: i32) -> Option<u32>
-    requires { opcode < 128 }
-    ensures { result ≡ form_j opcode rd imm }
+pub(crate) fn form_j(opcode: Opcode, rd: u8, imm: i32) -> Option<u32>
+    ensures { result ≡ form_j (major7 opcode) rd imm }
 {
     let raw = imm.cast_unsigned();
     if rd > 31 || imm < -1048576 || imm > 1048575 || raw % 2 != 0 {
@@ -95,6 +108,6 @@ pub(crate) fn form_j(opcode: u32, rd: u8, imm: i32) -> Option<u32>
             + (field(raw, 11, 11) << 20)
             + (field(raw, 19, 12) << 12)
             + (u32::from(rd) << 7)
-            + opcode,
+            + opcode.code(),
     )
 }

@@ -7,6 +7,7 @@ mod encoding;
 mod fields;
 mod formats;
 mod instructions;
+mod opcodes;
 mod operations;
 mod text;
 
@@ -15,3 +16,4 @@ pub use decoding::decode;
 pub use encoding::encode;
 pub use instructions::Instruction;
 pub use operations::{BranchOp, ImmOp, LoadOp, RegOp, ShiftOp, StoreOp};
+pub use text::UnknownMnemonic;

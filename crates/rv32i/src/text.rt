@@ -1,13 +1,14 @@
 // Instructions as text: the GNU assembler's form, without aliases and with numbered registers.
-ghost use Rattle.std.specs.Prelude.{◌≡◌, ◌<◌, false, [], ◌∷◌, Some, decimal};
-ghost use Rattle.std.specs.Fmt.{WritesOnOk, digit_glyph};
+ghost use Rattle.std.specs.Prelude.{◌≡◌, Some, codes, decimal};
 ghost use Rattle.rv32i.specs.Causes.{cause_number};
-ghost use Rattle.rv32i.specs.Text.{branch_name, load_name, store_name, imm_name, shift_name, reg_name, hexadecimal, upper, text_of};
+ghost use Rattle.rv32i.specs.Text.{branch_name, load_name, store_name, imm_name, shift_name, reg_name, ReadsName, upper, text_of};
 
 use crate::causes::Cause;
 use crate::instructions::Instruction;
 use crate::operations::{BranchOp, ImmOp, LoadOp, RegOp, ShiftOp, StoreOp};
+use std::error::Error;
 use std::fmt;
+use std::str::FromStr;
 
 impl fmt::Display for Cause {
     ghost output = { λ c. Some (decimal (cause_number c)) };
@@ -16,6 +17,20 @@ impl fmt::Display for Cause {
         write!(f, "{}", self.number())
     }
 }
+
+// No operation of the kind that was asked for has this name.
+#[derive(Clone, Copy, Debug, PartialEq, Eq)]
+pub struct UnknownMnemonic;
+
+impl fmt::Display for UnknownMnemonic {
+    ghost output = { λ _. Some (codes "unknown mnemonic") };
+
+    fn fmt<W: fmt::Write>(&self, f: &mut fmt::Formatter<W>) -> fmt::Result {
+        f.write_str("unknown mnemonic")
+    }
+}
+
+impl Error for UnknownMnemonic {}
 
 impl fmt::Display for BranchOp {
     ghost output = { λ op. Some (branch_name op) };
@@ -29,6 +44,24 @@ impl fmt::Display for BranchOp {
             BranchOp::Bltu => "bltu",
             BranchOp::Bgeu => "bgeu",
         })
+    }
+}
+
+impl FromStr for BranchOp {
+    type Err = UnknownMnemonic;
+
+    ghost from_str_gives = { ReadsName branch_name };
+
+    fn from_str(name: &str) -> Result<Self, UnknownMnemonic> {
+        match name {
+            "beq" => Ok(BranchOp::Beq),
+            "bne" => Ok(BranchOp::Bne),
+            "blt" => Ok(BranchOp::Blt),
+            "bge" => Ok(BranchOp::Bge),
+            "bltu" => Ok(BranchOp::Bltu),
+            "bgeu" => Ok(BranchOp::Bgeu),
+            _ => Err(UnknownMnemonic),
+        }
     }
 }
 
@@ -46,6 +79,23 @@ impl fmt::Display for LoadOp {
     }
 }
 
+impl FromStr for LoadOp {
+    type Err = UnknownMnemonic;
+
+    ghost from_str_gives = { ReadsName load_name };
+
+    fn from_str(name: &str) -> Result<Self, UnknownMnemonic> {
+        match name {
+            "lb" => Ok(LoadOp::Lb),
+            "lh" => Ok(LoadOp::Lh),
+            "lw" => Ok(LoadOp::Lw),
+            "lbu" => Ok(LoadOp::Lbu),
+            "lhu" => Ok(LoadOp::Lhu),
+            _ => Err(UnknownMnemonic),
+        }
+    }
+}
+
 impl fmt::Display for StoreOp {
     ghost output = { λ op. Some (store_name op) };
 
@@ -55,6 +105,21 @@ impl fmt::Display for StoreOp {
             StoreOp::Sh => "sh",
             StoreOp::Sw => "sw",
         })
+    }
+}
+
+impl FromStr for StoreOp {
+    type Err = UnknownMnemonic;
+
+    ghost from_str_gives = { ReadsName store_name };
+
+    fn from_str(name: &str) -> Result<Self, UnknownMnemonic> {
+        match name {
+            "sb" => Ok(StoreOp::Sb),
+            "sh" => Ok(StoreOp::Sh),
+            "sw" => Ok(StoreOp::Sw),
+            _ => Err(UnknownMnemonic),
+        }
     }
 }
 
@@ -73,6 +138,24 @@ impl fmt::Display for ImmOp {
     }
 }
 
+impl FromStr for ImmOp {
+    type Err = UnknownMnemonic;
+
+    ghost from_str_gives = { ReadsName imm_name };
+
+    fn from_str(name: &str) -> Result<Self, UnknownMnemonic> {
+        match name {
+            "addi" => Ok(ImmOp::Addi),
+            "slti" => Ok(ImmOp::Slti),
+            "sltiu" => Ok(ImmOp::Sltiu),
+            "xori" => Ok(ImmOp::Xori),
+            "ori" => Ok(ImmOp::Ori),
+            "andi" => Ok(ImmOp::Andi),
+            _ => Err(UnknownMnemonic),
+        }
+    }
+}
+
 impl fmt::Display for ShiftOp {
     ghost output = { λ op. Some (shift_name op) };
 
@@ -82,6 +165,21 @@ impl fmt::Display for ShiftOp {
             ShiftOp::Srli => "srli",
             ShiftOp::Srai => "srai",
         })
+    }
+}
+
+impl FromStr for ShiftOp {
+    type Err = UnknownMnemonic;
+
+    ghost from_str_gives = { ReadsName shift_name };
+
+    fn from_str(name: &str) -> Result<Self, UnknownMnemonic> {
+        match name {
+            "slli" => Ok(ShiftOp::Slli),
+            "srli" => Ok(ShiftOp::Srli),
+            "srai" => Ok(ShiftOp::Srai),
+            _ => Err(UnknownMnemonic),
+        }
     }
 }
 
@@ -104,18 +202,41 @@ impl fmt::Display for RegOp {
     }
 }
 
+impl FromStr for RegOp {
+    type Err = UnknownMnemonic;
+
+    ghost from_str_gives = { ReadsName reg_name };
+
+    fn from_str(name: &str) -> Result<Self, UnknownMnemonic> {
+        match name {
+            "add" => Ok(RegOp::Add),
+            "sub" => Ok(RegOp::Sub),
+            "sll" => Ok(RegOp::Sll),
+            "slt" => Ok(RegOp::Slt),
+            "sltu" => Ok(RegOp::Sltu),
+            "xor" => Ok(RegOp::Xor),
+            "srl" => Ok(RegOp::Srl),
+            "sra" => Ok(RegOp::Sra),
+            "or" => Ok(RegOp::Or),
+            "and" => Ok(RegOp::And),
+            _ => Err(UnknownMnemonic),
+        }
+    }
+}
+
 impl fmt::Display for Instruction {
     ghost output = { λ i. Some (text_of i) };
 
+    #[tactic(auto, using(crate::proofs::Hex::hexadecimal_digits))]
     fn fmt<W: fmt::Write>(&self, f: &mut fmt::Formatter<W>) -> fmt::Result {
         match *self {
             Instruction::Lui { rd, imm } => {
                 let high = upper_bits(imm);
-                write!(f, "lui x{rd},0x{high}")
+                write!(f, "lui x{rd},0x{high:x}")
             }
             Instruction::Auipc { rd, imm } => {
                 let high = upper_bits(imm);
-                write!(f, "auipc x{rd},0x{high}")
+                write!(f, "auipc x{rd},0x{high:x}")
             }
             Instruction::Jal { rd, offset } => write!(f, "jal x{rd},{offset}"),
             Instruction::Jalr { rd, rs1, offset } => write!(f, "jalr x{rd},{offset}(x{rs1})"),
@@ -139,8 +260,7 @@ impl fmt::Display for Instruction {
             } => write!(f, "{op} x{rs2},{offset}(x{rs1})"),
             Instruction::OpImm { op, rd, rs1, imm } => write!(f, "{op} x{rd},x{rs1},{imm}"),
             Instruction::ShiftImm { op, rd, rs1, shamt } => {
-                let shamt = Hexadecimal(u32::from(shamt));
-                write!(f, "{op} x{rd},x{rs1},0x{shamt}")
+                write!(f, "{op} x{rd},x{rs1},0x{shamt:x}")
             }
             Instruction::Op { op, rd, rs1, rs2 } => write!(f, "{op} x{rd},x{rs1},x{rs2}"),
             Instruction::Fence => f.write_str("fence"),
@@ -151,54 +271,8 @@ impl fmt::Display for Instruction {
 }
 
 // The upper twenty bits of an immediate, as LUI and AUIPC are written with them.
-fn upper_bits(imm: i32) -> Hexadecimal
-    ensures { result.0 ≡ upper imm }
+fn upper_bits(imm: i32) -> u32
+    ensures { result ≡ upper imm }
 {
-    Hexadecimal(imm.cast_unsigned() >> 12)
-}
-
-// A number to be written in small hexadecimal digits.
-#[derive(Clone, Copy)]
-struct Hexadecimal(u32);
-
-impl fmt::Display for Hexadecimal {
-    ghost output = { λ x. Some (hexadecimal x.0) };
-
-    fn fmt<W: fmt::Write>(&self, f: &mut fmt::Formatter<W>) -> fmt::Result {
-        put_hexadecimal(f, self.0)
-    }
-}
-
-fn put_hexadecimal<W: fmt::Write>(f: &mut fmt::Formatter<W>, n: u32) -> fmt::Result
-    ensures { WritesOnOk W.write_str_gives f.old result (hexadecimal n) f.new }
-{
-    if n < 16 {
-        return f.write_str(hex_digit(n));
-    }
-    put_hexadecimal(f, n / 16)?;
-    f.write_str(hex_digit(n % 16))
-}
-
-fn hex_digit(n: u32) -> &'static str
-    requires { n < 16 }
-    ensures { result.now ≡ digit_glyph false n ∷ [] }
-{
-    match n {
-        0 => "0",
-        1 => "1",
-        2 => "2",
-        3 => "3",
-        4 => "4",
-        5 => "5",
-        6 => "6",
-        7 => "7",
-        8 => "8",
-        9 => "9",
-        10 => "a",
-        11 => "b",
-        12 => "c",
-        13 => "d",
-        14 => "e",
-        _ => "f",
-    }
+    imm.cast_unsigned() >> 12
 }
