@@ -1,18 +1,15 @@
 -- A buffer of which only the first places count.
-use Rattle.std.proofs.Common.{◌≡◌, ℕ, ◌+◌, ◌*◌, ◌/◌, ◌%◌, ◌<◌, min, List, [], ◌∷◌, length, get_or, set, Some, None, sym, ap, ◌∙◌, arith, length-take, get_or-take, drop-set-lt}
-use Rattle.std.proofs.Math.Seq.{take-set-lt}
-use Rattle.std.proofs.lemmas.Bool.{cond_below}
-use Rattle.memory.specs.Bytes.{byte_at, half_at, word_at, byte_put, half_put, word_put}
-use Rattle.memory.specs.Loans.{Loan}
-use Rattle.memories.specs.Layout.{limit, counted, uncounted}
+use Rattle.std.proofs.Common.{◌≡◌, ℕ, suc, ◌+◌, ◌<◌, ◌≤◌, min, leb, List, [], ◌∷◌, ◌++◌, length, set, take, drop, sym, refl, ap, ◌∙◌, arith, append_assoc, length-take, length-drop, drop-set-lt}
+use Rattle.std.proofs.Math.Seq.{sets, sets-eq, drop-drop, take-set-lt}
+use Rattle.std.proofs.lemmas.Bool.{cond-true, le-leb}
+use Rattle.std.proofs.lemmas.List.{take_min}
+use Rattle.memories.specs.Layout.{limit, counted, uncounted, bytes_put}
 
-pub counted_length : (xs : List ℕ) → min (length xs) limit ≡ length (counted xs)
+pub counted_min : (xs : List ℕ) (n : ℕ) → n ≡ min (length xs) limit → take n xs ≡ counted xs
 unfolding counted
-counted_length xs = omega (arith, length-take limit xs)
-
-counted_get : (xs : List ℕ) (a : ℕ) → a < limit → get_or (counted xs) a 0 ≡ get_or xs a 0
-unfolding counted
-counted_get xs a h = get_or-take limit xs a 0 h
+counted_min xs n is =
+    let turned : n ≡ min limit (length xs) = omega arith in
+    ap (λ k. take k xs) turned ∙ take_min limit xs
 
 counted_set : (xs : List ℕ) (a b : ℕ) → a < limit → counted (set xs a b) ≡ set (counted xs) a b
 unfolding counted
@@ -22,64 +19,48 @@ uncounted_set : (xs : List ℕ) (a b : ℕ) → a < limit → uncounted (set xs 
 unfolding uncounted
 uncounted_set xs a b h = drop-set-lt limit xs a b h
 
-pub counted_byte : (xs : List ℕ) (a v : ℕ) → a < min (length xs) limit → v ≡ get_or xs a 0 → Some v ≡ byte_at (counted xs) a
-counted_byte xs a v h is =
-    let long = counted_length xs in
-    ap Some (is ∙ sym (counted_get xs a (omega arith))) ∙ cond_below a (length (counted xs)) _ None (omega arith)
+-- the same of a run of stores
+counted_sets : (vs xs : List ℕ) (a : ℕ) → a + length vs ≤ limit → counted (sets xs a vs) ≡ sets (counted xs) a vs
+counted_sets [] xs a h = refl
+counted_sets (v ∷ vs) xs a h =
+    counted_sets vs (set xs a v) (suc a) (omega arith) ∙ ap (λ l. sets l (suc a) vs) (counted_set xs a v (omega arith))
 
-pub counted_half : (xs : List ℕ) (a v : ℕ) → a + 1 < min (length xs) limit
-    → v ≡ get_or xs a 0 + get_or xs (a + 1) 0 * 256 → Some v ≡ half_at (counted xs) a
-counted_half xs a v h is =
-    let long = counted_length xs in
-    let e0 = counted_get xs a (omega arith) in
-    let e1 = counted_get xs (a + 1) (omega arith) in
-    ap Some (omega arith) ∙ cond_below (a + 1) (length (counted xs)) _ None (omega arith)
+uncounted_sets : (vs xs : List ℕ) (a : ℕ) → a + length vs ≤ limit → uncounted (sets xs a vs) ≡ uncounted xs
+uncounted_sets [] xs a h = refl
+uncounted_sets (v ∷ vs) xs a h =
+    uncounted_sets vs (set xs a v) (suc a) (omega arith) ∙ uncounted_set xs a v (omega arith)
 
-pub counted_word : (xs : List ℕ) (a v : ℕ) → a + 3 < min (length xs) limit
-    → v ≡ get_or xs a 0 + get_or xs (a + 1) 0 * 256 + get_or xs (a + 2) 0 * 65536 + get_or xs (a + 3) 0 * 16777216
-    → Some v ≡ word_at (counted xs) a
-counted_word xs a v h is =
-    let long = counted_length xs in
-    let e0 = counted_get xs a (omega arith) in
-    let e1 = counted_get xs (a + 1) (omega arith) in
-    let e2 = counted_get xs (a + 2) (omega arith) in
-    let e3 = counted_get xs (a + 3) (omega arith) in
-    ap Some (omega arith) ∙ cond_below (a + 3) (length (counted xs)) _ None (omega arith)
-
--- what a write leaves: the bytes that count, with the new ones, and those that do not, as they were
-pub byte_written : (xs ys : List ℕ) (a b : ℕ) → a < min (length xs) limit → ys ≡ set xs a b
-    → (counted ys ≡ byte_put (counted xs) a b) × (uncounted ys ≡ uncounted xs)
-byte_written xs ys a b h is =
-    let long = counted_length xs in
-    let l0 : a < limit = omega arith in (
-      ap counted is ∙ rw counted_set (cond_below a (length (counted xs)) _ (counted xs) (omega arith)),
-      ap uncounted is ∙ rw uncounted_set,
+-- what a copy of n bytes into the k from place a on leaves
+copied : (xs ys vs : List ℕ) (a n k : ℕ) → ys ≡ vs → length ys ≡ length (take k (drop a xs)) → k ≡ n
+    → a + n ≤ min (length xs) limit
+    → (length vs ≡ n) × (take a xs ++ (ys ++ drop k (drop a xs)) ≡ sets xs a vs)
+copied xs ys vs a n k is long kn h =
+    let lt = length-take k (drop a xs) in
+    let ld = length-drop a xs in
+    let lv : length vs ≡ n = omega (arith, ap length is) in
+    let end : a + k ≡ a + length vs = omega arith in (
+      lv,
+      ap (λ l. take a xs ++ (l ++ drop k (drop a xs))) is
+          ∙ ap (λ l. take a xs ++ (vs ++ l)) (drop-drop k a xs ∙ ap (λ m. drop m xs) end)
+          ∙ sym (append_assoc (take a xs) vs (drop (a + length vs) xs))
+          ∙ sym (sets-eq vs xs a (omega arith)),
     )
 
-pub half_written : (xs ys : List ℕ) (a v : ℕ) → a + 1 < min (length xs) limit
-    → ys ≡ set (set xs a (v % 256)) (a + 1) (v / 256 % 256)
-    → (counted ys ≡ half_put (counted xs) a v) × (uncounted ys ≡ uncounted xs)
-half_written xs ys a v h is =
-    let long = counted_length xs in
-    let l0 : a < limit = omega arith in
-    let l1 : a + 1 < limit = omega arith in (
-      ap counted is ∙ rw (counted_set, counted_set) (cond_below (a + 1) (length (counted xs)) _ (counted xs) (omega arith)),
-      ap uncounted is ∙ rw (uncounted_set, uncounted_set),
-    )
+pub counted_put : (xs ys vs : List ℕ) (a n k : ℕ) → ys ≡ vs → length ys ≡ length (take k (drop a xs)) → k ≡ n
+    → a + n ≤ min (length xs) limit
+    → counted (take a xs ++ (ys ++ drop k (drop a xs))) ≡ bytes_put (counted xs) a n vs
+counted_put xs ys vs a n k is long kn h =
+    let done = copied xs ys vs a n k is long kn h in
+    let lv = done.0 in
+    let lc = ap length (counted_min xs (min (length xs) limit) refl) in
+    let lt = length-take (min (length xs) limit) xs in
+    ap counted done.1 ∙ counted_sets vs xs a (omega arith)
+    ∙ sym (cond-true (leb (a + n) (length (counted xs))) _ _ (le-leb _ _ (omega arith)))
 
-pub word_written : (xs ys : List ℕ) (a v : ℕ) → a + 3 < min (length xs) limit
-    → ys ≡ set (set (set (set xs a (v % 256)) (a + 1) (v / 256 % 256)) (a + 2) (v / 65536 % 256)) (a + 3) (v / 16777216 % 256)
-    → (counted ys ≡ word_put (counted xs) a v) × (uncounted ys ≡ uncounted xs)
-word_written xs ys a v h is =
-    let long = counted_length xs in
-    let l0 : a < limit = omega arith in
-    let l1 : a + 1 < limit = omega arith in
-    let l2 : a + 2 < limit = omega arith in
-    let l3 : a + 3 < limit = omega arith in (
-      ap counted is ∙ rw (counted_set, counted_set, counted_set, counted_set) (cond_below (a + 3) (length (counted xs)) _ (counted xs) (omega arith)),
-      ap uncounted is ∙ rw (uncounted_set, uncounted_set, uncounted_set, uncounted_set),
-    )
-
-pub one_loan : (m n : ℕ) (s t : List ℕ) → m ≡ n → s ≡ t
-    → ◌≡◌ {A = List Loan} (record { name = m; spare = s } ∷ []) (record { name = n; spare = t } ∷ [])
-one_loan m n s t d e = ap (λ i. record { name = i; spare = s } ∷ []) d ∙ ap (λ u. record { name = n; spare = u } ∷ []) e
+pub uncounted_put : (xs ys vs : List ℕ) (a n k : ℕ) → ys ≡ vs → length ys ≡ length (take k (drop a xs)) → k ≡ n
+    → a + n ≤ min (length xs) limit
+    → uncounted (take a xs ++ (ys ++ drop k (drop a xs))) ≡ uncounted xs
+uncounted_put xs ys vs a n k is long kn h =
+    let done = copied xs ys vs a n k is long kn h in
+    let lv = done.0 in
+    ap uncounted done.1 ∙ uncounted_sets vs xs a (omega arith)

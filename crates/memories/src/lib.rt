@@ -4,3 +4,6 @@
 pub mod any;
 pub mod flat;
 pub mod lanes;
+
+// No memory counts more bytes than this.
+const LIMIT: usize = 1_048_576;
