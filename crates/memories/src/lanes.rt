@@ -1,6 +1,6 @@
 // A memory over four lent byte lanes: address a lies in lane a % 4 at place a / 4.
 ghost use Rattle.std.specs.Prelude.{◌≡◌, ◌/◌, ◌%◌, ◌<◌};
-ghost use Rattle.memories.specs.Layout.{lane, depth, woven, lane_loans, lane_put};
+ghost use Rattle.memories.specs.Layout.{lane, lane_put};
 ghost use Rattle.memories.specs.Few.{lanes_few};
 
 use crate::LIMIT;
@@ -17,8 +17,10 @@ pub struct Lanes<'a> {
 }
 
 impl Lanes<'_> {
+    ghost use Rattle.memories.specs.Lending.{lanes_depth};
+
     fn depth(&self) -> usize
-        ensures is { result ≡ depth self.now.lane0.now self.now.lane1.now self.now.lane2.now self.now.lane3.now }
+        ensures is { result ≡ lanes_depth self.now }
     {
         let low = self.lane0.len().min(self.lane1.len());
         let high = self.lane2.len().min(self.lane3.len());
@@ -38,7 +40,7 @@ impl Lanes<'_> {
 
     // A store in each arm: what is stored through a `&mut` that the arms choose is lost to the proof where they join.
     fn put(&mut self, address: u32, byte: u8)
-        requires { address / 4 < depth self.old.lane0.now self.old.lane1.now self.old.lane2.now self.old.lane3.now }
+        requires { address / 4 < lanes_depth self.old }
         ensures lane0 { self.new.lane0.now ≡ lane_put (address / 4) byte (address % 4) 0 self.old.lane0.now }
         ensures lane1 { self.new.lane1.now ≡ lane_put (address / 4) byte (address % 4) 1 self.old.lane1.now }
         ensures lane2 { self.new.lane2.now ≡ lane_put (address / 4) byte (address % 4) 2 self.old.lane2.now }
@@ -56,11 +58,13 @@ impl Lanes<'_> {
 }
 
 impl Memory for Lanes<'_> {
-    ghost bytes = { λ m. woven m.lane0.now m.lane1.now m.lane2.now m.lane3.now };
+    ghost use Rattle.memories.specs.Lending.{lanes_bytes, lanes_lent};
+
+    ghost bytes = { λ m. lanes_bytes m };
 
     ghost few = { λ m. lanes_few m.lane0.now m.lane1.now m.lane2.now m.lane3.now };
 
-    ghost lent = { λ m. lane_loans m.lane0.ghost_name m.lane1.ghost_name m.lane2.ghost_name m.lane3.ghost_name m.lane0.now m.lane1.now m.lane2.now m.lane3.now };
+    ghost lent = { λ m. lanes_lent m };
 
     #[tactic(auto, using(crate::proofs::Weave::woven_length))]
     fn size(&self) -> u32 {

@@ -17,7 +17,8 @@ pub fn stamp<M: Memory>(memory: &mut M, address: u32)
     memory.write(0, 7);
 }
 
-// The same of the one buffer of a flat memory.
+// The same of the one buffer of a flat memory. A step of its own: with stamp called where the memory is made, nothing ties
+// what the buffer holds in the end to the memory, and three forms of that got no proof.
 fn stamp_flat(memory: &mut Flat, address: u32)
     ensures bytes { memory.new.buffer.now ≡ stamped (counted memory.old.buffer.now) address ++ uncounted memory.old.buffer.now }
     ensures lent { memory.new.buffer.ghost_name ≡ memory.old.buffer.ghost_name }
@@ -32,6 +33,7 @@ pub fn stamp_slice(buffer: &mut [u8], address: u32)
     stamp_flat(&mut memory, address);
 }
 
+#[tactic(auto, unfolding(memories::specs::Layout::counted, memories::specs::Layout::uncounted))]
 pub fn stamp_array(address: u32) -> [u8; 64]
     ensures is { result ≡ stamped (replicate 64 0) address }
 {
@@ -46,13 +48,14 @@ pub fn stamp_vec(buffer: &mut Vec<u8>, address: u32)
     stamp_slice(buffer.as_mut_slice(), address);
 }
 
-// The same of the four lanes of a memory.
+// The same of the four lanes of a memory, a step of its own as above.
 fn stamp_lanes(memory: &mut Lanes, address: u32)
     ensures bytes { Lender memory.old memory.new (stamped (lanes_bytes memory.old) address) }
 {
     stamp(memory, address);
 }
 
+// Four parameters, since callers have four buffers; a struct of them is the memory that is made here.
 pub fn stamp_four<'a>(
     p: &'a mut [u8],
     q: &'a mut [u8],
@@ -75,6 +78,7 @@ pub fn stamp_four<'a>(
 }
 
 // Lanes of unlike length: a place past the shortest does not count, and stays.
+#[tactic(auto, unfolding(memories::specs::Layout::woven))]
 pub fn stamp_arrays(address: u32) -> ([u8; 3], [u8; 4], [u8; 5], [u8; 6])
     ensures lane0 { result.0 ≡ column 0 (stamped (replicate 12 0) address) ++ replicate 0 0 }
     ensures lane1 { result.1 ≡ column 1 (stamped (replicate 12 0) address) ++ replicate 1 0 }

@@ -1,15 +1,12 @@
 // A memory of one's own: 64 bytes in four pages, of which those that were never written are absent and read as zeros.
-ghost use Rattle.std.specs.Prelude.{◌≡◌, ◌<◌, [], length, replicate, slice_index, slice_index_or};
-ghost use Rattle.memory_example.specs.Paged.{shown, turned, laid, laid_few};
-ghost use Rattle.memory_example.specs.declared.pages.Page.TheVariants.{Absent};
+ghost use Rattle.std.specs.Prelude.{◌≡◌, ◌/◌, ◌<◌, [], length, replicate, slice_index_or, None};
+ghost use Rattle.memory_example.specs.Paged.{shown, laid, laid_few};
 
 use memory::Memory;
 
-#[derive(Clone, Copy)]
-pub enum Page {
-    Absent,
-    Present([u8; 16]),
-}
+const SIZE: u32 = 64;
+
+pub type Page = Option<[u8; 16]>;
 
 #[derive(Drop)]
 pub struct Pages {
@@ -17,39 +14,20 @@ pub struct Pages {
 }
 
 impl Pages {
+    #[tactic(auto, unfolding(crate::specs::Paged::laid))]
     pub fn new() -> Pages
         ensures is { laid result.table ≡ replicate 64 0 }
     {
-        Pages {
-            table: [Page::Absent; 4],
-        }
+        Pages { table: [None; 4] }
     }
 
-    fn get(&self, page: usize, place: usize) -> u8
-        requires { (page < 4) × (place < 16) }
-        ensures is { result ≡ slice_index (shown (slice_index_or self.now.table page Absent)) place }
+    // The page that an address lies in.
+    fn page(&self, at: usize) -> [u8; 16]
+        requires { at < SIZE }
+        ensures is { result ≡ shown (slice_index_or self.now.table (at / 16) None) }
+        ensures sizes { (length self.now.table ≡ 4) × (length result ≡ 16) }
     {
-        let bytes = contents(self.table[page]);
-        bytes[place]
-    }
-
-    fn put(&mut self, page: usize, place: usize, byte: u8)
-        requires { (page < 4) × (place < 16) }
-        ensures bytes { self.new.table ≡ turned self.old.table page place byte }
-        ensures kept { (length self.old.table ≡ 4) × (length (shown (slice_index_or self.old.table page Absent)) ≡ 16) }
-    {
-        let mut bytes = contents(self.table[page]);
-        bytes[place] = byte;
-        self.table[page] = Page::Present(bytes);
-    }
-}
-
-fn contents(page: Page) -> [u8; 16]
-    ensures is { result ≡ shown page }
-{
-    match page {
-        Page::Absent => [0; 16],
-        Page::Present(bytes) => bytes,
+        self.table[at / 16].unwrap_or([0; 16])
     }
 }
 
@@ -62,22 +40,29 @@ impl Memory for Pages {
     // It owns its bytes.
     ghost lent = { λ _. [] };
 
+    #[tactic(auto, using(crate::proofs::Turning::laid_length))]
     fn size(&self) -> u32 {
-        64
+        SIZE
     }
 
+    #[tactic(auto, using(crate::proofs::Turning::laid_length, crate::proofs::Turning::laid_byte))]
     fn read(&self, address: u32) -> Option<u8> {
-        if address >= 64 {
+        if address >= SIZE {
             return None;
         }
-        Some(self.get(address as usize / 16, address as usize % 16))
+        let at = address as usize;
+        Some(self.page(at)[at % 16])
     }
 
+    #[tactic(auto, using(crate::proofs::Turning::laid_length, crate::proofs::Turning::laid_put))]
     fn write(&mut self, address: u32, byte: u8) -> bool {
-        if address >= 64 {
+        if address >= SIZE {
             return false;
         }
-        self.put(address as usize / 16, address as usize % 16, byte);
+        let at = address as usize;
+        let mut page = self.page(at);
+        page[at % 16] = byte;
+        self.table[at / 16] = Some(page);
         true
     }
 }

@@ -3,7 +3,7 @@ ghost use Rattle.policy.specs.Answers.{rings_allow};
 
 use crate::Policy;
 
-// A number above 3 counts as 3.
+// A number above 3 counts as 3, so any byte is a ring; an enum would ask more of callers.
 #[derive(Clone, Copy)]
 pub struct Rings {
     pub domains: [u8; 8],
