@@ -30,7 +30,7 @@ uncounted_sets [] xs a h = refl
 uncounted_sets (v ∷ vs) xs a h =
     uncounted_sets vs (set xs a v) (suc a) (omega arith) ∙ uncounted_set xs a v (omega arith)
 
--- what a copy of n bytes into the k from place a on leaves
+-- a copy of n bytes into the k from place a on is a run of stores
 copied : (xs ys vs : List ℕ) (a n k : ℕ) → ys ≡ vs → length ys ≡ length (take k (drop a xs)) → k ≡ n
     → a + n ≤ min (length xs) limit
     → (length vs ≡ n) × (take a xs ++ (ys ++ drop k (drop a xs)) ≡ sets xs a vs)
@@ -46,6 +46,7 @@ copied xs ys vs a n k is long kn h =
           ∙ sym (sets-eq vs xs a (omega arith)),
     )
 
+-- what a write leaves: the bytes that count, with the new ones, and those that do not, as they were
 pub counted_put : (xs ys vs : List ℕ) (a n k : ℕ) → ys ≡ vs → length ys ≡ length (take k (drop a xs)) → k ≡ n
     → a + n ≤ min (length xs) limit
     → counted (take a xs ++ (ys ++ drop k (drop a xs))) ≡ bytes_put (counted xs) a n vs

@@ -36,6 +36,7 @@ impl<'a> Flat<'a> {
         self.counted().get(at..at + N)?.first_chunk().copied()
     }
 
+    #[tactic(auto, using(crate::proofs::Cuts::counted_put, crate::proofs::Cuts::uncounted_put))]
     fn put<const N: usize>(&mut self, address: u32, bytes: [u8; N]) -> bool
         requires { N ≤ 4 }
         ensures is { result ≡ nat_le (address + N) (length (counted self.old.buffer.now)) }

@@ -71,7 +71,7 @@ impl Memory for Lanes<'_> {
         self.depth() as u32 * 4
     }
 
-    #[tactic(auto, using(crate::proofs::Weave::woven_length))]
+    #[tactic(auto, using(crate::proofs::Weave::woven_length, crate::proofs::Weave::woven_byte))]
     fn read(&self, address: u32) -> Option<u8> {
         let i = address as usize / 4;
         if i < self.depth() {

@@ -28,10 +28,12 @@ pub trait Memory {
         ensures bytes { bytes self.new ≡ byte_put (bytes self.old) address byte }
         ensures lent { lent self.new ≡ lent self.old };
 
+    // The four bodies below differ in the width alone: a method may have no const parameter, and a function over any memory,
+    // called here at Self, gets no proof unless the bodies are final, while a memory may bring its own.
     fn read_half(&self, address: u32) -> Option<u16>
         ensures is { result ≡ half_at (bytes self.now) address }
     {
-        if u64::from(address) + 1 >= u64::from(self.size()) {
+        if address >= self.size().saturating_sub(1) {
             return None;
         }
         let low = self.read(address)?;
@@ -42,7 +44,7 @@ pub trait Memory {
     fn read_word(&self, address: u32) -> Option<u32>
         ensures is { result ≡ word_at (bytes self.now) address }
     {
-        if u64::from(address) + 3 >= u64::from(self.size()) {
+        if address >= self.size().saturating_sub(3) {
             return None;
         }
         let b0 = self.read(address)?;
@@ -58,7 +60,7 @@ pub trait Memory {
         ensures bytes { bytes self.new ≡ half_put (bytes self.old) address half }
         ensures lent { lent self.new ≡ lent self.old }
     {
-        if u64::from(address) + 1 >= u64::from(self.size()) {
+        if address >= self.size().saturating_sub(1) {
             return false;
         }
         let [low, high] = half.to_le_bytes();
@@ -73,7 +75,7 @@ pub trait Memory {
         ensures bytes { bytes self.new ≡ word_put (bytes self.old) address word }
         ensures lent { lent self.new ≡ lent self.old }
     {
-        if u64::from(address) + 3 >= u64::from(self.size()) {
+        if address >= self.size().saturating_sub(3) {
             return false;
         }
         let [b0, b1, b2, b3] = word.to_le_bytes();
