@@ -70,10 +70,7 @@ fn refusals_as_text(rt: HostRuntime) -> Result<(), Fail> {
 
 // The number of the refusal, or 0 where the segment is made.
 fn segment_told(base: u32, k: u32, memory: u32) -> u8 {
-    match Segment::new(base, k, memory) {
-        Ok(_) => 0,
-        Err(refusal) => refusal.number(),
-    }
+    Segment::new(base, k, memory).map_or_else(|refusal| refusal.number(), |_| 0)
 }
 
 #[test]
@@ -91,20 +88,16 @@ fn segments(rt: HostRuntime) {
 
 #[test]
 fn guard_zones(rt: HostRuntime) {
-    assert!(rt; apart(0, 3072));
-    assert!(rt; apart(3072, 0));
-    assert!(rt; !apart(0, 2048));
-    assert!(rt; !apart(2048, 0));
-    assert!(rt; !apart(1024, 1024));
+    assert_eq!(rt; apart(0, 3072), Some(true));
+    assert_eq!(rt; apart(3072, 0), Some(true));
+    assert_eq!(rt; apart(0, 2048), Some(false));
+    assert_eq!(rt; apart(2048, 0), Some(false));
+    assert_eq!(rt; apart(1024, 1024), Some(false));
 }
 
-// Whether the guard zone lies between segments of 1,024 bytes at two bases.
-fn apart(first: u32, second: u32) -> bool {
-    let Ok(a) = Segment::new(first, 10, 1048576) else {
-        return false;
-    };
-    let Ok(b) = Segment::new(second, 10, 1048576) else {
-        return false;
-    };
-    a.apart(b)
+// Whether the guard zone lies between segments of 1,024 bytes at two bases, where there are such segments.
+fn apart(first: u32, second: u32) -> Option<bool> {
+    let a = Segment::new(first, 10, 1048576).ok()?;
+    let b = Segment::new(second, 10, 1048576).ok()?;
+    Some(a.apart(b))
 }

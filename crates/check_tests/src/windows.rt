@@ -15,35 +15,36 @@ pub(crate) const GOOD: [u32; 16] = [
     0x00000013, 0x00000013, 0x00000013, 0x00000013, 0x00000013, 0x00000013, 0xFC5FF06F, // JAL x0,-60
 ];
 
-// The numbers that tell the answer, with 0 for those that are not there; all 0 where the window is accepted.
+// The number of the refusal and its values, with 0 for those that are not there; all 0 where the window is accepted.
 pub(crate) fn told(store: &[u32], base: u32, m: u32) -> (u8, usize, usize, usize) {
-    match check(store, base, m) {
-        Ok(()) => (0, 0, 0, 0),
-        Err(refusal) => {
-            let number = refusal.number();
-            match refusal.values() {
-                Values::Empty => (number, 0, 0, 0),
-                Values::One(a) => (number, a, 0, 0),
-                Values::Two(a, b) => (number, a, b, 0),
-                Values::Three(a, b, c) => (number, a, b, c),
-            }
-        }
+    let Err(refusal) = check(store, base, m) else {
+        return (0, 0, 0, 0);
+    };
+    let number = refusal.number();
+    match refusal.values() {
+        Values::Empty => (number, 0, 0, 0),
+        Values::One(a) => (number, a, 0, 0),
+        Values::Two(a, b) => (number, a, b, 0),
+        Values::Three(a, b, c) => (number, a, b, c),
     }
 }
 
 // The same of the good window with another word at a place.
 pub(crate) fn one(place: usize, word: u32) -> (u8, usize, usize, usize) {
-    two(place, word, 16, 0)
+    changed(&[(place, word)])
 }
 
 // The same with other words at two places.
 pub(crate) fn two(place: usize, word: u32, second: usize, other: u32) -> (u8, usize, usize, usize) {
+    changed(&[(place, word), (second, other)])
+}
+
+fn changed(words: &[(usize, u32)]) -> (u8, usize, usize, usize) {
     let mut window = GOOD;
-    if place < 16 {
-        window[place] = word;
-    }
-    if second < 16 {
-        window[second] = other;
+    for (place, word) in words {
+        if let Some(old) = window.get_mut(*place) {
+            *old = *word;
+        }
     }
     told(&window, 0, 6)
 }

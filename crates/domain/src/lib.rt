@@ -7,6 +7,7 @@ ghost use Rattle.segment.specs.Rows.{row};
 ghost use Rattle.domain.specs.Confined.{started, Starts, Enters, Confines};
 
 use code_check::{Pointer, code_mask};
+use machine::set_register;
 use refusal::Refusal;
 use segment::Segment;
 
@@ -32,11 +33,11 @@ fn dedicate(registers: [u32; 32], base: u32, m: u32, segment: Segment) -> Result
     let code_mask = code_mask(m)?;
     let mut all = registers;
     all[0] = 0;
-    all[22] = base;
-    all[23] = code_mask;
-    all[24] = segment.base();
-    all[25] = segment.mask();
-    all[26] = base;
-    all[27] = segment.base();
+    set_register(&mut all, Pointer::Code.base(), base);
+    set_register(&mut all, Pointer::Code.mask(), code_mask);
+    set_register(&mut all, Pointer::Data.base(), segment.base());
+    set_register(&mut all, Pointer::Data.mask(), segment.mask());
+    set_register(&mut all, Pointer::Code.register(), base);
+    set_register(&mut all, Pointer::Data.register(), segment.base());
     Ok(all)
 }

@@ -1,2 +1,1 @@
-mod Past
 pub mod Multiples

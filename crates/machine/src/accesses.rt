@@ -2,7 +2,6 @@
 ghost use Rattle.std.specs.Prelude.{◌≡◌};
 ghost use Rattle.machine.specs.Accesses.{load_width, store_width, extended, datum_of};
 
-use crate::arithmetic::{to_signed, to_word};
 use crate::widths::{Datum, Width};
 use rv32i::{LoadOp, StoreOp};
 
@@ -31,8 +30,8 @@ pub fn extend(op: LoadOp, raw: u32) -> u32
     ensures is { result ≡ extended op raw }
 {
     match op {
-        LoadOp::Lb => to_word(to_signed(raw << 24) >> 24),
-        LoadOp::Lh => to_word(to_signed(raw << 16) >> 16),
+        LoadOp::Lb => ((raw << 24).cast_signed() >> 24).cast_unsigned(),
+        LoadOp::Lh => ((raw << 16).cast_signed() >> 16).cast_unsigned(),
         LoadOp::Lw => raw,
         LoadOp::Lbu => raw % 0x100,
         LoadOp::Lhu => raw % 0x1_0000,

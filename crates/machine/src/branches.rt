@@ -1,7 +1,6 @@
 ghost use Rattle.std.specs.Prelude.{◌≡◌};
 ghost use Rattle.machine.specs.Branches.{is_taken};
 
-use crate::arithmetic::to_signed;
 use rv32i::BranchOp;
 
 pub(crate) fn is_taken(op: BranchOp, a: u32, b: u32) -> bool
@@ -10,8 +9,8 @@ pub(crate) fn is_taken(op: BranchOp, a: u32, b: u32) -> bool
     match op {
         BranchOp::Beq => a == b,
         BranchOp::Bne => a != b,
-        BranchOp::Blt => to_signed(a) < to_signed(b),
-        BranchOp::Bge => to_signed(a) >= to_signed(b),
+        BranchOp::Blt => a.cast_signed() < b.cast_signed(),
+        BranchOp::Bge => a.cast_signed() >= b.cast_signed(),
         BranchOp::Bltu => a < b,
         BranchOp::Bgeu => a >= b,
     }

@@ -3,7 +3,7 @@ ghost use Rattle.machine.specs.Executed.{next_of, even, linked, branched, loads,
 ghost use Rattle.machine.specs.Laws.{Aligned};
 
 use crate::accesses::{datum, load_width, store_width};
-use crate::arithmetic::{add, imm_value, reg_value, shift_value, to_word};
+use crate::arithmetic::{add, imm_value, reg_value, shift_value};
 use crate::branches::is_taken;
 use crate::effects::Effect;
 use crate::registers::register;
@@ -69,6 +69,7 @@ fn store(op: StoreOp, address: u32, word: u32) -> Effect
 }
 
 // What the instruction at `pc` does.
+#[tactic(auto, using(crate::proofs::Multiples::executed_aligned))]
 pub fn execute(instruction: Instruction, registers: &[u32; 32], pc: u32) -> Effect
     ensures is { result ≡ executed instruction registers.now pc }
     ensures aligned { Aligned result }
@@ -82,7 +83,7 @@ fn effect_of(instruction: Instruction, registers: &[u32; 32], pc: u32) -> Effect
     match instruction {
         Instruction::Lui { rd, imm } => Effect::Set {
             rd,
-            value: to_word(imm),
+            value: imm.cast_unsigned(),
         },
         Instruction::Auipc { rd, imm } => Effect::Set {
             rd,

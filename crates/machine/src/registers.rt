@@ -2,21 +2,20 @@
 ghost use Rattle.std.specs.Prelude.{◌≡◌};
 ghost use Rattle.machine.specs.Registers.{value_of, written};
 
+// The registers are a plain array, which callers copy and hand over by value.
 pub fn register(registers: &[u32; 32], r: u8) -> u32
     ensures is { result ≡ value_of registers.now r }
 {
-    if r == 0 || r > 31 {
-        0
-    } else {
-        registers[r as usize]
+    match registers.get(usize::from(r)) {
+        Some(value) if r != 0 => *value,
+        _ => 0,
     }
 }
 
 pub fn set_register(registers: &mut [u32; 32], rd: u8, value: u32)
     ensures is { registers.new ≡ written registers.old rd value }
 {
-    if rd == 0 || rd > 31 {
-        return;
+    if rd != 0 && rd < 32 {
+        registers[usize::from(rd)] = value;
     }
-    registers[rd as usize] = value;
 }

@@ -2,7 +2,7 @@ ghost use Rattle.std.specs.Prelude.{◌≡◌};
 ghost use Rattle.machine.specs.Stops.{stop_row};
 
 // Why a step stops; such a step writes no register and no memory. Of two causes the earlier wins.
-#[derive(Clone, Copy)]
+#[derive(Clone, Copy, Debug, PartialEq, Eq)]
 pub enum Stop {
     // The pc is no multiple of 4, or past the code store.
     Fetch { pc: u32 },
@@ -50,11 +50,8 @@ impl Stop {
             Stop::Fetch { pc } => pc,
             Stop::Illegal { word } => word,
             Stop::Target { target } => target,
-            Stop::Misaligned { address } => address,
-            Stop::Unmapped { address } => address,
-            Stop::NoGate { gate } => gate,
-            Stop::Forbidden { gate } => gate,
-            Stop::Busy { gate } => gate,
+            Stop::Misaligned { address } | Stop::Unmapped { address } => address,
+            Stop::NoGate { gate } | Stop::Forbidden { gate } | Stop::Busy { gate } => gate,
             Stop::Break => 0,
         }
     }

@@ -2,7 +2,7 @@ ghost use Rattle.std.specs.Prelude.{◌≡◌};
 ghost use Rattle.machine.specs.Widths.{bytes_of, aligned};
 
 // How many bytes a load or a store moves.
-#[derive(Clone, Copy)]
+#[derive(Clone, Copy, Debug, PartialEq, Eq)]
 pub enum Width {
     Byte,
     Half,
@@ -10,7 +10,7 @@ pub enum Width {
 }
 
 // What a store puts into memory, its bytes in little-endian order.
-#[derive(Clone, Copy)]
+#[derive(Clone, Copy, Debug, PartialEq, Eq)]
 pub enum Datum {
     U8(u8),
     U16(u16),

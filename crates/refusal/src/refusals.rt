@@ -142,8 +142,5 @@ impl Refusal {
 fn cause_told(cause: Option<Cause>) -> usize
     ensures { result ≡ cause_told cause }
 {
-    match cause {
-        Some(cause) => usize::from(cause.number()),
-        None => 0,
-    }
+    cause.map_or(0, |cause| usize::from(cause.number()))
 }

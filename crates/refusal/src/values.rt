@@ -1,4 +1,4 @@
-// The values that come with a refusal's number.
+// The values that come with a refusal's number, three at most: a `Vec` would need a heap, and a refusal has none.
 #[derive(Clone, Copy)]
 pub enum Values {
     Empty,

@@ -32,6 +32,7 @@ impl Segment {
         self.low_bits()
     }
 
+    // Apart from `mask`, whose law is proved by hand: so a wrong value is refused here, where it is computed.
     fn low_bits(self) -> u32
         ensures { result ≡ 2 ^ (row self).bits - 1 }
     {
@@ -46,6 +47,7 @@ impl Segment {
         self.covers(address)
     }
 
+    // Apart from `holds`, as `low_bits` is.
     fn covers(self, address: u32) -> bool
         ensures { result ≡ inside (row self) address }
     {
