@@ -2,33 +2,37 @@
 use machine::{Datum, Effect, execute, extend, load_width};
 use rv32i::{Instruction, LoadOp, StoreOp};
 
-// 0 and the address of the access, or the number and the detail of the stop, or 255; then the bytes that are stored, and their value.
-fn asked(instruction: Instruction, address: u32, value: u32) -> (u8, u32, u32, u32) {
+#[derive(Clone, Copy, Debug, PartialEq, Eq)]
+enum Access {
+    Read(u32),
+    Write(u32, Datum),
+    // The number and the detail of the stop.
+    Stop(u8, u32),
+    Other,
+}
+
+fn asked(instruction: Instruction, address: u32, value: u32) -> Access {
     let mut registers = [0; 32];
     registers[2] = address;
     registers[3] = value;
     match execute(instruction, &registers, 0x100) {
-        Effect::Read { address, .. } => (0, address, 0, 0),
-        Effect::Write { address, datum } => match datum {
-            Datum::U8(byte) => (0, address, 1, u32::from(byte)),
-            Datum::U16(half) => (0, address, 2, u32::from(half)),
-            Datum::U32(word) => (0, address, 4, word),
-        },
-        Effect::Stop(stop) => (stop.number(), stop.detail(), 0, 0),
-        _ => (255, 0, 0, 0),
+        Effect::Read { address, .. } => Access::Read(address),
+        Effect::Write { address, datum } => Access::Write(address, datum),
+        Effect::Stop(stop) => Access::Stop(stop.number(), stop.detail()),
+        _ => Access::Other,
     }
 }
 
 #[test]
 fn loads(rt: HostRuntime) {
     let rows = [
-        (LoadOp::Lb, 0, -1, (0, 0xFFFFFFFF, 0, 0)),
-        (LoadOp::Lbu, 0xFFFFFFFF, 2, (0, 1, 0, 0)),
-        (LoadOp::Lh, 0x101, 1, (0, 0x102, 0, 0)),
-        (LoadOp::Lh, 0x101, 0, (4, 0x101, 0, 0)),
-        (LoadOp::Lhu, 0x100, 3, (4, 0x103, 0, 0)),
-        (LoadOp::Lw, 4, -8, (0, 0xFFFFFFFC, 0, 0)),
-        (LoadOp::Lw, 0x100, 2, (4, 0x102, 0, 0)),
+        (LoadOp::Lb, 0, -1, Access::Read(0xFFFFFFFF)),
+        (LoadOp::Lbu, 0xFFFFFFFF, 2, Access::Read(1)),
+        (LoadOp::Lh, 0x101, 1, Access::Read(0x102)),
+        (LoadOp::Lh, 0x101, 0, Access::Stop(4, 0x101)),
+        (LoadOp::Lhu, 0x100, 3, Access::Stop(4, 0x103)),
+        (LoadOp::Lw, 4, -8, Access::Read(0xFFFFFFFC)),
+        (LoadOp::Lw, 0x100, 2, Access::Stop(4, 0x102)),
     ];
     for (op, address, offset, expected) in rows {
         let instruction = Instruction::Load {
@@ -44,11 +48,11 @@ fn loads(rt: HostRuntime) {
 #[test]
 fn stores(rt: HostRuntime) {
     let rows = [
-        (StoreOp::Sb, 3, (0, 0x103, 1, 0xCD)),
-        (StoreOp::Sh, -2, (0, 0xFE, 2, 0xABCD)),
-        (StoreOp::Sh, 1, (4, 0x101, 0, 0)),
-        (StoreOp::Sw, 4, (0, 0x104, 4, 0x1234ABCD)),
-        (StoreOp::Sw, 2, (4, 0x102, 0, 0)),
+        (StoreOp::Sb, 3, Access::Write(0x103, Datum::U8(0xCD))),
+        (StoreOp::Sh, -2, Access::Write(0xFE, Datum::U16(0xABCD))),
+        (StoreOp::Sh, 1, Access::Stop(4, 0x101)),
+        (StoreOp::Sw, 4, Access::Write(0x104, Datum::U32(0x1234ABCD))),
+        (StoreOp::Sw, 2, Access::Stop(4, 0x102)),
     ];
     for (op, offset, expected) in rows {
         let instruction = Instruction::Store {

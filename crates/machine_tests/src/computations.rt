@@ -2,7 +2,6 @@
 use machine::{Effect, execute, register, set_register};
 use rv32i::{ImmOp, Instruction, RegOp, ShiftOp};
 use std::process::Abort;
-use std::test::Fail;
 
 const PC: u32 = 0x1000;
 
@@ -17,6 +16,20 @@ fn computed(instruction: Instruction, a: u32, b: u32, pc: u32) -> Option<u32> {
     }
 }
 
+// Each row has a, the other operand and the value.
+fn expect<B: Copy, F: Fn(u32, B) -> Option<u32>>(
+    rt: &impl Abort,
+    rows: &[(u32, B, u32)],
+    computed: F,
+)
+    requires { F.IsAlwaysCallable computed }
+{
+    for row in rows {
+        let (a, b, value) = *row;
+        assert_eq!(rt; computed(a, b), Some(value));
+    }
+}
+
 fn expect_op(rt: &impl Abort, op: RegOp, rows: &[(u32, u32, u32)]) {
     let instruction = Instruction::Op {
         op,
@@ -24,36 +37,31 @@ fn expect_op(rt: &impl Abort, op: RegOp, rows: &[(u32, u32, u32)]) {
         rs1: 2,
         rs2: 3,
     };
-    for row in rows {
-        let (a, b, value) = *row;
-        assert_eq!(rt; computed(instruction, a, b, PC), Some(value));
-    }
+    expect(rt, rows, |a, b| computed(instruction, a, b, PC));
 }
 
 fn expect_imm(rt: &impl Abort, op: ImmOp, rows: &[(u32, i32, u32)]) {
-    for row in rows {
-        let (a, imm, value) = *row;
+    expect(rt, rows, |a, imm| {
         let instruction = Instruction::OpImm {
             op,
             rd: 1,
             rs1: 2,
             imm,
         };
-        assert_eq!(rt; computed(instruction, a, 0, PC), Some(value));
-    }
+        computed(instruction, a, 0, PC)
+    });
 }
 
 fn expect_shift(rt: &impl Abort, op: ShiftOp, rows: &[(u32, u8, u32)]) {
-    for row in rows {
-        let (a, shamt, value) = *row;
+    expect(rt, rows, |a, shamt| {
         let instruction = Instruction::ShiftImm {
             op,
             rd: 1,
             rs1: 2,
             shamt,
         };
-        assert_eq!(rt; computed(instruction, a, 0, PC), Some(value));
-    }
+        computed(instruction, a, 0, PC)
+    });
 }
 
 #[test]
@@ -208,7 +216,7 @@ fn upper_immediates(rt: HostRuntime) {
 }
 
 #[test]
-fn zero_register(rt: HostRuntime) -> Result<(), Fail> {
+fn zero_register(rt: HostRuntime) {
     let mut registers = [7; 32];
     assert_eq!(rt; register(&registers, 0), 0);
     assert_eq!(rt; register(&registers, 31), 7);
@@ -225,12 +233,6 @@ fn zero_register(rt: HostRuntime) -> Result<(), Fail> {
         rs1: 0,
         imm: 3,
     };
-    match execute(copy, &registers, PC) {
-        Effect::Set { rd, value } => {
-            assert_eq!(rt; rd, 5);
-            assert_eq!(rt; value, 3);
-            Ok(())
-        }
-        _ => Err(Fail::new("no register is set")),
-    }
+    let effect = execute(copy, &registers, PC);
+    assert!(rt; matches!(effect, Effect::Set { rd: 5, value: 3 }));
 }

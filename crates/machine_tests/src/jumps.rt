@@ -1,29 +1,36 @@
 // JAL, JALR and the branches.
 use machine::{Effect, execute, next_pc};
 use rv32i::{BranchOp, Instruction};
-use std::test::Fail;
 
-// 0 and the next pc, or the number and the detail of the stop, where x2 and x3 hold a and b; 255 for any other effect.
-fn led(instruction: Instruction, a: u32, b: u32, pc: u32) -> (u8, u32) {
+#[derive(Clone, Copy, Debug, PartialEq, Eq)]
+enum Way {
+    // The next pc.
+    To(u32),
+    // The number and the detail of the stop.
+    Stop(u8, u32),
+    Other,
+}
+
+// Where the instruction leads, where x2 and x3 hold a and b.
+fn led(instruction: Instruction, a: u32, b: u32, pc: u32) -> Way {
     let mut registers = [0; 32];
     registers[2] = a;
     registers[3] = b;
     match execute(instruction, &registers, pc) {
-        Effect::Next => (0, next_pc(pc)),
-        Effect::Jump { target } => (0, target),
-        Effect::Link { target, .. } => (0, target),
-        Effect::Stop(stop) => (stop.number(), stop.detail()),
-        _ => (255, pc),
+        Effect::Next => Way::To(next_pc(pc)),
+        Effect::Jump { target } | Effect::Link { target, .. } => Way::To(target),
+        Effect::Stop(stop) => Way::Stop(stop.number(), stop.detail()),
+        _ => Way::Other,
     }
 }
 
 #[test]
 fn jal(rt: HostRuntime) {
     let rows = [
-        (0xFFFFFFFC, 8, (0, 4)),
-        (4, -8, (0, 0xFFFFFFFC)),
-        (0x100, 0, (0, 0x100)),
-        (0x100, 2, (3, 0x102)),
+        (0xFFFFFFFC, 8, Way::To(4)),
+        (4, -8, Way::To(0xFFFFFFFC)),
+        (0x100, 0, Way::To(0x100)),
+        (0x100, 2, Way::Stop(3, 0x102)),
     ];
     for (pc, offset, expected) in rows {
         let instruction = Instruction::Jal { rd: 1, offset };
@@ -34,12 +41,12 @@ fn jal(rt: HostRuntime) {
 #[test]
 fn jalr_clears_bit_0(rt: HostRuntime) {
     let rows = [
-        (0x1003, -2, (0, 0x1000)),
-        (0x1001, 0, (0, 0x1000)),
-        (0x1003, 0, (3, 0x1002)),
-        (0xFFFFFFFF, 1, (0, 0)),
-        (0, -4, (0, 0xFFFFFFFC)),
-        (0xFFFFFFFF, 0, (3, 0xFFFFFFFE)),
+        (0x1003, -2, Way::To(0x1000)),
+        (0x1001, 0, Way::To(0x1000)),
+        (0x1003, 0, Way::Stop(3, 0x1002)),
+        (0xFFFFFFFF, 1, Way::To(0)),
+        (0, -4, Way::To(0xFFFFFFFC)),
+        (0xFFFFFFFF, 0, Way::Stop(3, 0xFFFFFFFE)),
     ];
     for (a, offset, expected) in rows {
         let instruction = Instruction::Jalr {
@@ -53,25 +60,27 @@ fn jalr_clears_bit_0(rt: HostRuntime) {
 
 // The link is the next pc, also where that wraps, and where the target's register is the link's.
 #[test]
-fn links(rt: HostRuntime) -> Result<(), Fail> {
+fn links(rt: HostRuntime) {
     let registers = [0x40; 32];
     let jal = Instruction::Jal { rd: 5, offset: 8 };
-    match execute(jal, &registers, 0xFFFFFFFC) {
-        Effect::Link { rd, link, .. } => assert_eq!(rt; (rd, link), (5, 0)),
-        _ => return Err(Fail::new("no link")),
-    }
+    let effect = execute(jal, &registers, 0xFFFFFFFC);
+    assert!(rt; matches!(effect, Effect::Link { rd: 5, link: 0, .. }));
     let jalr = Instruction::Jalr {
         rd: 1,
         rs1: 1,
         offset: 0,
     };
-    match execute(jalr, &registers, 0x100) {
-        Effect::Link { rd, link, target } => {
-            assert_eq!(rt; (rd, link, target), (1, 0x104, 0x40));
-            Ok(())
-        },
-        _ => Err(Fail::new("no link")),
-    }
+    let effect = execute(jalr, &registers, 0x100);
+    assert!(rt;
+        matches!(
+            effect,
+            Effect::Link {
+                rd: 1,
+                link: 0x104,
+                target: 0x40
+            }
+        )
+    );
 }
 
 #[test]
@@ -104,7 +113,7 @@ fn branches(rt: HostRuntime) {
             offset: -0x104,
         };
         let expected = if taken { 0xFFFFFFFC } else { 0x104 };
-        assert_eq!(rt; led(instruction, a, b, 0x100), (0, expected));
+        assert_eq!(rt; led(instruction, a, b, 0x100), Way::To(expected));
     }
 }
 
@@ -117,6 +126,6 @@ fn crooked_branches(rt: HostRuntime) {
         rs2: 3,
         offset: 6,
     };
-    assert_eq!(rt; led(instruction, 7, 7, 0x100), (3, 0x106));
-    assert_eq!(rt; led(instruction, 7, 8, 0x100), (0, 0x104));
+    assert_eq!(rt; led(instruction, 7, 7, 0x100), Way::Stop(3, 0x106));
+    assert_eq!(rt; led(instruction, 7, 8, 0x100), Way::To(0x104));
 }
