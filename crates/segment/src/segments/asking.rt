@@ -25,16 +25,10 @@ impl Segment {
     }
 
     // What a mask word takes of a number before the base word brings it into the segment.
+    #[tactic(auto, using(crate::proofs::Blocks::masked_data))]
     pub fn mask(self) -> u32
         ensures is { result ≡ 2 ^ (row self).bits - 1 }
         ensures confines { Confines (row self) result }
-    {
-        self.low_bits()
-    }
-
-    // Apart from `mask`, whose law is proved by hand: so a wrong value is refused here, where it is computed.
-    fn low_bits(self) -> u32
-        ensures { result ≡ 2 ^ (row self).bits - 1 }
     {
         self.size() - 1
     }
@@ -47,7 +41,7 @@ impl Segment {
         self.covers(address)
     }
 
-    // Apart from `holds`, as `low_bits` is.
+    // Apart from `holds`, whose law is proved by hand: so a wrong test is refused here, in the code.
     fn covers(self, address: u32) -> bool
         ensures { result ≡ inside (row self) address }
     {
