@@ -3,7 +3,7 @@
 
 use code_check::check;
 use std::time::Instant;
-use std::{env, io};
+use std::{array, env, io};
 
 // Eight words that store a byte, go through the code pointer and back to their start.
 const LOOP: [u32; 8] = [
@@ -18,11 +18,7 @@ const LOOP: [u32; 8] = [
 ];
 
 fn full_window() -> [u32; 4096] {
-    let mut words = [0u32; 4096];
-    for (place, word) in words.iter_mut().enumerate() {
-        *word = LOOP[place % 8];
-    }
-    words
+    array::from_fn(|place| LOOP[place % LOOP.len()])
 }
 
 // How many of so many checks accept the window; one word is another each time, so that none can be left out.
@@ -31,7 +27,7 @@ fn accepted(words: &mut [u32; 4096], rounds: u32) -> u32 {
     for round in 0..rounds {
         words[0] = 0x00000293 + ((round % 2048) << 20);
         if check(words, 0, 14).is_ok() {
-            count = count.wrapping_add(1);
+            count += 1;
         }
     }
     count
@@ -43,10 +39,8 @@ fn words_per_second(rounds: u32, nanos: u128) -> u128 {
 
 fn main(rt: HostRuntime) -> io::Result<()> {
     let mut words = full_window();
-    let mut rounds = 0u32;
-    for argument in env::args(&rt)?.skip(1) {
-        rounds = argument.parse::<u32>().unwrap_or(0);
-    }
+    let argument = env::args(&rt)?.skip(1).last();
+    let rounds = argument.map_or(0, |argument| argument.parse::<u32>().unwrap_or(0));
     if rounds == 0 {
         let accepted = accepted(&mut words, 1);
         return println!(rt; "{accepted} window of 4096 words accepted");

@@ -1,7 +1,7 @@
 // What the rules ask of an instruction.
 ghost use Rattle.std.specs.Prelude.{◌≡◌};
 ghost use Rattle.rv32i.specs.Decoded.{decoded};
-ghost use Rattle.code_check.specs.Aspects.{written as written_of, store_base, jump_base, offset as offset_of, leaves as is_leaving, mask_of, base_of, masks, bases, is_base_of};
+ghost use Rattle.code_check.specs.Aspects.{written as written_of, store_base, jump_base, offset as offset_of, leaves as is_leaving, mask_of, base_of, is_base_of};
 
 use crate::pointers::Pointer;
 use rv32i::{Instruction, RegOp, decode};
@@ -57,10 +57,10 @@ pub(crate) fn offset(instruction: Instruction) -> Option<i32>
 pub(crate) fn leaves(instruction: Instruction) -> bool
     ensures { result ≡ is_leaving instruction }
 {
-    match instruction {
-        Instruction::Jal { .. } | Instruction::Jalr { .. } | Instruction::Ebreak => true,
-        _ => false,
-    }
+    matches!(
+        instruction,
+        Instruction::Jal { .. } | Instruction::Jalr { .. } | Instruction::Ebreak
+    )
 }
 
 // The pointer of which it is the mask word.
@@ -73,23 +73,9 @@ pub(crate) fn masked_pointer(instruction: Instruction) -> Option<Pointer>
             rd,
             rs2,
             ..
-        } => {
-            if masks_by(Pointer::Data, rd, rs2) {
-                Some(Pointer::Data)
-            } else if masks_by(Pointer::Code, rd, rs2) {
-                Some(Pointer::Code)
-            } else {
-                None
-            }
-        }
+        } => Pointer::held_by(rd).filter(|pointer| rs2 == pointer.mask()),
         _ => None,
     }
-}
-
-fn masks_by(pointer: Pointer, rd: u8, rs2: u8) -> bool
-    ensures { result ≡ masks rd rs2 pointer }
-{
-    rd == pointer.register() && rs2 == pointer.mask()
 }
 
 // The pointer of which it is the base word.
@@ -102,34 +88,14 @@ pub(crate) fn based_pointer(instruction: Instruction) -> Option<Pointer>
             rd,
             rs1,
             rs2,
-        } => {
-            if bases_by(Pointer::Data, rd, rs1, rs2) {
-                Some(Pointer::Data)
-            } else if bases_by(Pointer::Code, rd, rs1, rs2) {
-                Some(Pointer::Code)
-            } else {
-                None
-            }
-        }
+        } => Pointer::held_by(rd).filter(|pointer| rs1 == rd && rs2 == pointer.base()),
         _ => None,
     }
-}
-
-fn bases_by(pointer: Pointer, rd: u8, rs1: u8, rs2: u8) -> bool
-    ensures { result ≡ bases rd rs1 rs2 pointer }
-{
-    rd == pointer.register() && rs1 == pointer.register() && rs2 == pointer.base()
 }
 
 // Whether a word is the base word of a pointer.
 pub(crate) fn is_base_word(word: u32, pointer: Pointer) -> bool
     ensures { result ≡ is_base_of pointer (decoded word) }
 {
-    match decode(word) {
-        Ok(instruction) => match based_pointer(instruction) {
-            Some(based) => based.register() == pointer.register(),
-            None => false,
-        },
-        Err(_) => false,
-    }
+    decode(word).is_ok_and(|instruction| based_pointer(instruction) == Some(pointer))
 }

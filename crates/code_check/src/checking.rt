@@ -1,4 +1,4 @@
-ghost use Rattle.std.specs.Prelude.{◌≡◌, ℕ, ◌+◌, ◌<◌, ◌≤◌, List, length, slice_index};
+ghost use Rattle.std.specs.Prelude.{◌≡◌, ℕ, ◌≤◌, List, length, slice_index};
 ghost use Rattle.rv32i.specs.Decoded.{decoded};
 ghost use Rattle.refusal.specs.Told.{told_in};
 ghost use Rattle.code_check.specs.Verdicts.{passed, verdict, checked};
@@ -6,41 +6,35 @@ ghost use Rattle.code_check.specs.Laws.{Judged, Meant, Gives};
 ghost use Rattle.code_check.specs.Examples.{Examples};
 
 use crate::rules::lowest_broken;
+use crate::sites::Site;
 use crate::windows::window;
 use refusal::{Refusal, Rule};
 use rv32i::decode;
 
-fn check_word(word: u32, words: usize, place: usize, next: u32) -> Result<(), Refusal>
-    requires { (place < words) × (words ≤ 4096) }
-    ensures { told_in result ≡ passed words place (decoded next) (decoded word) }
+fn check_word(word: u32, site: Site) -> Result<(), Refusal>
+    ensures { told_in result ≡ passed site.words site.place (decoded site.next) (decoded word) }
 {
-    match decode(word) {
-        Ok(instruction) => match lowest_broken(instruction, words, place, next) {
-            Some(rule) => Err(Refusal::RuleBroken {
-                place,
-                rule,
-                cause: None,
-            }),
-            None => Ok(()),
-        },
-        Err(cause) => Err(Refusal::RuleBroken {
+    let place = site.place;
+    let instruction = decode(word).map_err(|cause| Refusal::RuleBroken {
+        place,
+        rule: Rule::Decodes,
+        cause: Some(cause),
+    })?;
+    match lowest_broken(instruction, site) {
+        Some(rule) => Err(Refusal::RuleBroken {
             place,
-            rule: Rule::Decodes,
-            cause: Some(cause),
+            rule,
+            cause: None,
         }),
+        None => Ok(()),
     }
 }
 
-// The word after the one at `place`, or 0, which is not RV32I, where there is none.
-fn following(window: &[u32], place: usize) -> u32
-    requires { place < length window.now }
-    ensures { result ≡ slice_index window.now (place + 1) }
+// Past the window stands 0, which is not RV32I.
+fn word_at(window: &[u32], place: usize) -> u32
+    ensures { result ≡ slice_index window.now place }
 {
-    if place + 1 < window.len() {
-        window[place + 1]
-    } else {
-        0
-    }
+    window.get(place).copied().unwrap_or(0)
 }
 
 // The first word that breaks a rule decides.
@@ -49,7 +43,12 @@ fn check_words(window: &[u32]) -> Result<(), Refusal>
     ensures { told_in result ≡ verdict window.now }
 {
     for (place, word) in window.iter().enumerate() {
-        check_word(*word, window.len(), place, following(window, place))?;
+        let site = Site {
+            words: window.len(),
+            place,
+            next: word_at(window, place + 1),
+        };
+        check_word(*word, site)?;
     }
     Ok(())
 }

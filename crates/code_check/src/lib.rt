@@ -5,6 +5,7 @@ mod aspects;
 mod checking;
 mod pointers;
 mod rules;
+mod sites;
 mod windows;
 
 pub use checking::check;

@@ -1,8 +1,10 @@
-ghost use Rattle.std.specs.Prelude.{◌≡◌};
+ghost use Rattle.std.specs.Prelude.{◌≡◌, ◌==◌};
+ghost use Rattle.rv32i.specs.Table.{first};
+ghost use Rattle.code_check.specs.Aspects.{pointers};
 ghost use Rattle.code_check.specs.Registers.{register as register_of, mask as mask_of, base as base_of, dedicated as is_dedicated, may_store};
 
 // The two dedicated registers that hold addresses, each with a register for its mask and one for its base.
-#[derive(Clone, Copy)]
+#[derive(Clone, Copy, Debug, PartialEq, Eq)]
 pub enum Pointer {
     // Stores go through it.
     Data,
@@ -11,6 +13,19 @@ pub enum Pointer {
 }
 
 impl Pointer {
+    // The pointer that a register holds.
+    pub(crate) fn held_by(register: u8) -> Option<Pointer>
+        ensures { result ≡ first (λ q. register == register_of q) pointers }
+    {
+        if register == Pointer::Data.register() {
+            Some(Pointer::Data)
+        } else if register == Pointer::Code.register() {
+            Some(Pointer::Code)
+        } else {
+            None
+        }
+    }
+
     pub fn register(self) -> u8
         ensures is { result ≡ register_of self }
     {

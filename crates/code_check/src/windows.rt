@@ -20,6 +20,7 @@ pub fn bits_fit(m: u32) -> bool
 }
 
 // What a mask word keeps for the code pointer: the way to a word, below the size of a window.
+#[tactic(auto, using(crate::proofs::Framing::confines))]
 pub fn code_mask(m: u32) -> Result<u32, Refusal>
     ensures is { told_in result ≡ code_mask_of m }
     ensures confines { (k : ℕ) → told_in result ≡ Ok k → Confines m k }
@@ -37,6 +38,7 @@ fn way_bits(m: u32) -> Result<u32, Refusal>
 }
 
 // The words of the window of 2^m bytes from the code address `base`.
+#[tactic(auto, using(crate::proofs::Framing::framed))]
 pub fn window(store: &[u32], base: u32, m: u32) -> Result<&[u32], Refusal>
     ensures is { viewed result ≡ windowed store.now base m }
     ensures framed { (ws : List ℕ) → viewed result ≡ Ok ws → Framed store.now base m ws }

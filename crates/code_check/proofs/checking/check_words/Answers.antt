@@ -15,16 +15,10 @@ returns-in_err-check_word c =
     let w = c.args.window.now in
     let i = c.loop-place.place in
     let p = err_from_is_err_and c.from_residual.result c.from_residual.ensures.1 in
-    rw (p.1, p.2) (sym (stops_at (passed_at w) (length w) i _ c.loop-place-test.true c.loop-place.invariant (here w i c.following.result (Err (told c.in_err-check_word.field-0.0)) c.following.ensures c.in_err-check_word.ensures)))
+    rw (p.1, p.2) (sym (stops_at (passed_at w) (length w) i _ c.loop-place-test.true c.loop-place.invariant (here w i c.word_at.result (Err (told c.in_err-check_word.field-0.0)) c.word_at.ensures c.in_err-check_word.ensures)))
 
 pub loop-place-preserved : goal.loop-place-preserved
 loop-place-preserved c =
     let w = c.args.window.now in
     let i = c.loop-place.place in
-    one_more (passed_at w) i c.loop-place.invariant (here w i c.following.result (Ok tt) c.following.ensures c.in_ok-check_word.ensures)
-
-pub returns : goal.returns
-returns c =
-    let w = c.args.window.now in
-    let end : c.loop-place.place ≡ length w = omega arith in
-    sym (subst (λ n. in_turn (passed_at w) n ≡ Ok tt) end c.loop-place.invariant)
+    one_more (passed_at w) i c.loop-place.invariant (here w i c.word_at.result (Ok tt) c.word_at.ensures c.in_ok-check_word.ensures)
