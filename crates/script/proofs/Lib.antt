@@ -1,2 +1,2 @@
+mod Chunks
 mod Peeks
-mod Plus

@@ -11,14 +11,16 @@ pub fn words(heap: Global, bytes: &[u8]) -> Result<Option<Vec<u32>>, AllocError>
     if bytes.len() % 4 != 0 {
         return Ok(None);
     }
-    let mut words = Vec::new(heap);
-    for i in 0..bytes.len() / 4 {
-        words.push(u32::from_le_bytes([
-            bytes[4 * i],
-            bytes[4 * i + 1],
-            bytes[4 * i + 2],
-            bytes[4 * i + 3],
-        ]))?;
-    }
-    Ok(Some(words))
+    Ok(Some(whole_words(heap, bytes)?))
+}
+
+// Bytes at the end that do not make a word are left out.
+fn whole_words(heap: Global, bytes: &[u8]) -> Result<Vec<u32>, AllocError>
+    ensures is { IfOk result (λ v. v.items ≡ words_of bytes.now) }
+{
+    let (chunks, _rest) = bytes.as_chunks::<4>();
+    chunks
+        .iter()
+        .map(|&chunk| u32::from_le_bytes(chunk))
+        .collect(heap)
 }

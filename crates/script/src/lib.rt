@@ -4,10 +4,12 @@
 mod buffers;
 mod code;
 mod commands;
+mod faults;
 mod reading;
 mod sessions;
 
 pub use code::words;
 pub use commands::{Answer, Command};
-pub use reading::{Fault, Line, Problem, read};
+pub use faults::{Fault, Problem};
+pub use reading::{Line, read};
 pub use sessions::Session;

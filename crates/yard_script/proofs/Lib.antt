@@ -1,1 +1,1 @@
-mod Plus
+mod Chunks

@@ -1,37 +1,31 @@
 use std::alloc::{AllocError, AllocFailed};
-use std::fmt;
+use thiserror::Error;
 
 // What is wrong with a line.
-#[derive(Clone, Copy)]
+#[derive(Clone, Copy, Debug, Error)]
 pub enum Problem {
+    #[error("there is no such command")]
     Command,
+    #[error("the command has another number of words")]
     Words,
+    #[error("this is no number of at most 32 bits")]
     Number,
+    #[error("this is the text of no instruction")]
     Instruction,
+    #[error("this sets no register")]
     Register,
+    #[error("the code store is under a yard")]
     UnderYard,
+    #[error("the file cannot be read")]
     File,
+    #[error("the file has no whole number of words")]
     Length,
     // Nothing is wrong with the line: there was no memory for it.
+    #[error("out of memory")]
     Memory,
 }
 
-impl fmt::Display for Problem {
-    fn fmt<W: fmt::Write>(&self, f: &mut fmt::Formatter<W>) -> fmt::Result {
-        f.write_str(match self {
-            Problem::Command => "there is no such command",
-            Problem::Words => "the command has another number of words",
-            Problem::Number => "this is no number of at most 32 bits",
-            Problem::Instruction => "this is the text of no instruction",
-            Problem::Register => "this sets no register",
-            Problem::UnderYard => "the code store is under a yard",
-            Problem::File => "the file cannot be read",
-            Problem::Length => "the file has no whole number of words",
-            Problem::Memory => "out of memory",
-        })
-    }
-}
-
+// By hand: `#[from]` would need a variant that holds the error, which says no more than the variant does.
 impl From<AllocError> for Problem {
     fn from(_e: AllocError) -> Problem {
         Problem::Memory
@@ -45,16 +39,9 @@ impl<T: Drop> From<AllocFailed<T>> for Problem {
 }
 
 // A line, counted from 1, and what is wrong with it.
-#[derive(Clone, Copy)]
+#[derive(Clone, Copy, Debug, Error)]
+#[error("line {line}: {problem}")]
 pub struct Fault {
     pub line: usize,
     pub problem: Problem,
-}
-
-impl fmt::Display for Fault {
-    fn fmt<W: fmt::Write>(&self, f: &mut fmt::Formatter<W>) -> fmt::Result {
-        let line = self.line;
-        let problem = self.problem;
-        write!(f, "line {line}: {problem}")
-    }
 }

@@ -1,4 +1,4 @@
-ghost use Rattle.std.specs.Prelude.{◌≡◌, ◌<◌, ◌≤◌, IfSome, ◌==◌, slice_index};
+ghost use Rattle.std.specs.Prelude.{◌≡◌, ◌<◌, ◌≤◌, IfSome};
 ghost use Rattle.std.specs.Result.{result_ok};
 ghost use Rattle.yard_script.specs.Numbers.{Worth};
 ghost use Rattle.yard_script.specs.Yards.{stands_after};
@@ -7,6 +7,7 @@ use crate::commands::Command;
 use crate::faults::{Fault, Problem};
 use rv32i::Instruction;
 use std::alloc::Global;
+use std::array;
 use std::str::SplitWhitespace;
 
 // A command, with the number of its line, counted from 1.
@@ -21,44 +22,19 @@ pub struct Line {
 pub fn read(heap: Global, text: &str) -> Result<Vec<Line>, Fault> {
     let mut lines = Vec::new(heap);
     let mut under_yard = false;
-    for (index, row) in text.lines().enumerate() {
-        let number = index.saturating_add(1);
-        match read_row(heap, row, number, under_yard, &mut lines) {
-            Ok(under) => under_yard = under,
-            Err(problem) => {
-                return Err(Fault {
-                    line: number,
-                    problem,
-                });
-            }
+    for (number, row) in (1..).zip(text.lines()) {
+        let fault = |problem| Fault {
+            line: number,
+            problem,
+        };
+        if let Some(command) = command_of(heap, row).map_err(fault)? {
+            under_yard = stands(&command, under_yard).map_err(fault)?;
+            lines
+                .push(Line { number, command })
+                .map_err(|_| fault(Problem::Memory))?;
         }
     }
     Ok(lines)
-}
-
-// Answers whether the lines after this one stand under a yard.
-fn read_row(
-    heap: Global,
-    row: &str,
-    number: usize,
-    under_yard: bool,
-    lines: &mut Vec<Line>,
-) -> Result<bool, Problem> {
-    let code = match row.split_once('#') {
-        Some((code, _comment)) => code,
-        None => row,
-    };
-    let mut words = code.split_whitespace();
-    let Some(name) = words.next() else {
-        return Ok(under_yard);
-    };
-    let command = command_of(heap, name, &mut words)?;
-    if words.next().is_some() {
-        return Err(Problem::Words);
-    }
-    let under = stands(&command, under_yard)?;
-    lines.push(Line { number, command })?;
-    Ok(under)
 }
 
 // Whether a yard stands over the code store after the command. A yard's code does not change, so none is appended there.
@@ -72,90 +48,152 @@ fn stands(command: &Command, under_yard: bool) -> Result<bool, Problem>
     }
 }
 
-fn command_of(heap: Global, name: &str, words: &mut SplitWhitespace) -> Result<Command, Problem> {
-    match name {
-        "decode" => Ok(Command::Decode(number(words.next())?)),
-        "encode" => Ok(Command::Encode(instruction(heap, words.next(), words.next())?)),
-        "memory" => memory_of(words),
-        "peek" => Ok(Command::Peek {
-            address: number(words.next())?,
-            count: number(words.next())?,
-        }),
-        "rights" => {
-            let mut rows = [0; 8];
-            numbers(words, &mut rows)?;
-            Ok(Command::Rights(rows))
-        }
-        "rings" => {
-            let mut domains = [0; 8];
-            let mut gates = [0; 32];
-            rings(words, &mut domains)?;
-            rings(words, &mut gates)?;
-            Ok(Command::Rings { domains, gates })
-        }
-        "may" => Ok(Command::May {
-            domain: number(words.next())?,
-            gate: number(words.next())?,
-        }),
-        "code" => Ok(Command::Code(code_of(heap, words)?)),
-        "code-file" => match words.next() {
-            Some(path) => Ok(Command::CodeFile(String::from_str(heap, path)?)),
-            None => Err(Problem::Words),
-        },
-        "check" => Ok(Command::Check {
-            base: number(words.next())?,
-            m: number(words.next())?,
-        }),
-        _ => yard_command_of(name, words),
+fn command_of(heap: Global, row: &str) -> Result<Option<Command>, Problem> {
+    let code = row.split_once('#').map_or(row, |(code, _comment)| code);
+    let mut words = code.split_whitespace();
+    let Some(name) = words.next() else {
+        return Ok(None);
+    };
+    let mut operands = Operands { heap, words };
+    let command = operands.command(name)?;
+    if operands.words.next().is_some() {
+        return Err(Problem::Words);
     }
+    Ok(Some(command))
 }
 
-fn yard_command_of(name: &str, words: &mut SplitWhitespace) -> Result<Command, Problem> {
-    match name {
-        "yard" => Ok(Command::Yard(number(words.next())?)),
-        "admit" => admit_of(words),
-        "open" => Ok(Command::Open {
-            gate: number(words.next())?,
-            domain: number(words.next())?,
-            offset: number(words.next())?,
-        }),
-        "call" => {
-            let gate = number(words.next())?;
-            let mut values = [0; 7];
-            first_numbers(words, &mut values)?;
-            Ok(Command::Call { gate, values })
-        }
-        "run" => Ok(Command::Run(number(words.next())?)),
-        "reply" => Ok(Command::Reply(number(words.next())?)),
-        "cut" => Ok(Command::Cut),
-        "register" => Ok(Command::Register {
-            domain: number(words.next())?,
-            number: number(words.next())?,
-        }),
-        _ => Err(Problem::Command),
-    }
+// The words of a line that have not been read yet.
+#[derive(Drop)]
+struct Operands<'a> {
+    heap: Global,
+    words: SplitWhitespace<'a>,
 }
 
-// All the words of the line from the fifth on set a register.
-fn admit_of(words: &mut SplitWhitespace) -> Result<Command, Problem> {
-    let base = number(words.next())?;
-    let m = number(words.next())?;
-    let data = number(words.next())?;
-    let k = number(words.next())?;
-    let mut registers = [0; 32];
-    for word in words {
-        let Some((register, value)) = setting(word) else {
-            return Err(Problem::Register);
+impl<'a> Operands<'a> {
+    fn command(&mut self, name: &str) -> Result<Command, Problem> {
+        Ok(match name {
+            "decode" => Command::Decode(self.number()?),
+            "encode" => Command::Encode(self.instruction()?),
+            "memory" => self.memory()?,
+            "peek" => Command::Peek {
+                address: self.number()?,
+                count: self.number()?,
+            },
+            "rights" => Command::Rights(self.numbers()?),
+            "rings" => Command::Rings {
+                domains: self.rings()?,
+                gates: self.rings()?,
+            },
+            "may" => Command::May {
+                domain: self.number()?,
+                gate: self.number()?,
+            },
+            "code" => Command::Code(self.code()?),
+            "code-file" => Command::CodeFile(String::from_str(self.heap, self.word()?)?),
+            "check" => Command::Check {
+                base: self.number()?,
+                m: self.number()?,
+            },
+            _ => return self.yard_command(name),
+        })
+    }
+
+    fn yard_command(&mut self, name: &str) -> Result<Command, Problem> {
+        Ok(match name {
+            "yard" => Command::Yard(self.number()?),
+            "admit" => Command::Admit {
+                base: self.number()?,
+                m: self.number()?,
+                data: self.number()?,
+                k: self.number()?,
+                registers: self.registers()?,
+            },
+            "open" => Command::Open {
+                gate: self.number()?,
+                domain: self.number()?,
+                offset: self.number()?,
+            },
+            "call" => Command::Call {
+                gate: self.number()?,
+                values: self.first_numbers()?,
+            },
+            "run" => Command::Run(self.number()?),
+            "reply" => Command::Reply(self.number()?),
+            "cut" => Command::Cut,
+            "register" => Command::Register {
+                domain: self.number()?,
+                number: self.number()?,
+            },
+            _ => return Err(Problem::Command),
+        })
+    }
+
+    fn memory(&mut self) -> Result<Command, Problem> {
+        match self.word()? {
+            "flat" => Ok(Command::FlatMemory(self.number()?)),
+            "lanes" => Ok(Command::LanesMemory(self.numbers()?)),
+            _ => Err(Problem::Command),
+        }
+    }
+
+    // All the words of the line that are left set a register.
+    fn registers(&mut self) -> Result<[u32; 32], Problem> {
+        let mut registers = [0; 32];
+        for word in self.words.by_ref() {
+            let (register, value) = setting(word).ok_or(Problem::Register)?;
+            registers[register] = value;
+        }
+        Ok(registers)
+    }
+
+    // All the words of the line that are left, of which there is at least one.
+    fn code(&mut self) -> Result<Vec<u32>, Problem> {
+        let code: Vec<u32> = self.words.by_ref().map(number).try_collect(self.heap)?;
+        if code.is_empty() {
+            return Err(Problem::Words);
+        }
+        Ok(code)
+    }
+
+    fn instruction(&mut self) -> Result<Instruction, Problem> {
+        let name = self.word()?;
+        let read = match self.words.next() {
+            Some(operands) => {
+                let text = format!(in self.heap; "{name} {operands}")?;
+                assembly::parse(self.heap, text.as_str())?
+            }
+            None => assembly::parse(self.heap, name)?,
         };
-        registers[register] = value;
+        read.ok_or(Problem::Instruction)
     }
-    Ok(Command::Admit {
-        registers,
-        base,
-        m,
-        data,
-        k,
-    })
+
+    // Those above 3 count as 3.
+    fn rings<const N: usize>(&mut self) -> Result<[u8; N], Problem>
+        requires { N ≤ 32 }
+    {
+        Ok(self.numbers()?.map(|ring| ring.min(3) as u8))
+    }
+
+    fn numbers<const N: usize>(&mut self) -> Result<[u32; N], Problem>
+        requires { N ≤ 32 }
+    {
+        array::try_from_fn(|_| self.number())
+    }
+
+    // Numbers for the first places, as many as there are words, and no more than there are places.
+    fn first_numbers<const N: usize>(&mut self) -> Result<[u32; N], Problem>
+        requires { N ≤ 32 }
+    {
+        array::try_from_fn(|_| self.words.next().map_or(Ok(0), number))
+    }
+
+    fn number(&mut self) -> Result<u32, Problem> {
+        number(self.word()?)
+    }
+
+    fn word(&mut self) -> Result<&'a str, Problem> {
+        self.words.next().ok_or(Problem::Words)
+    }
 }
 
 // A register, by its number, and what it is set to, as `x11=0x12` says.
@@ -167,65 +205,10 @@ fn setting(word: &str) -> Option<(usize, u32)>
     if register > 31 {
         return None;
     }
-    Some((register as usize, number(Some(value)).ok()?))
+    Some((register as usize, number(value).ok()?))
 }
 
-// All the words of the line that are left, of which there is at least one.
-fn code_of(heap: Global, words: &mut SplitWhitespace) -> Result<Vec<u32>, Problem> {
-    let mut code = Vec::new(heap);
-    let mut word = number(words.next())?;
-    for next in words {
-        code.push(word)?;
-        word = number(Some(next))?;
-    }
-    code.push(word)?;
-    Ok(code)
-}
-
-fn memory_of(words: &mut SplitWhitespace) -> Result<Command, Problem> {
-    match words.next() {
-        Some("flat") => Ok(Command::FlatMemory(number(words.next())?)),
-        Some("lanes") => {
-            let mut lengths = [0; 4];
-            numbers(words, &mut lengths)?;
-            Ok(Command::LanesMemory(lengths))
-        }
-        Some(_) => Err(Problem::Command),
-        None => Err(Problem::Words),
-    }
-}
-
-// As many numbers as there are places.
-fn numbers(words: &mut SplitWhitespace, all: &mut [u32]) -> Result<(), Problem> {
-    for one in all.iter_mut() {
-        *one = number(words.next())?;
-    }
-    Ok(())
-}
-
-// Numbers for the first places, as many as there are words, and no more than there are places.
-fn first_numbers(words: &mut SplitWhitespace, all: &mut [u32]) -> Result<(), Problem> {
-    for one in all.iter_mut() {
-        let Some(word) = words.next() else {
-            break;
-        };
-        *one = number(Some(word))?;
-    }
-    Ok(())
-}
-
-// As many rings as there are places. Those above 3 count as 3.
-fn rings(words: &mut SplitWhitespace, all: &mut [u8]) -> Result<(), Problem> {
-    for one in all.iter_mut() {
-        *one = number(words.next())?.min(3) as u8;
-    }
-    Ok(())
-}
-
-fn number(word: Option<&str>) -> Result<u32, Problem> {
-    let Some(text) = word else {
-        return Err(Problem::Words);
-    };
+fn number(text: &str) -> Result<u32, Problem> {
     let worth = match text.strip_prefix("0x") {
         Some(digits) => worth_of(digits, 16),
         None => worth_of(text, 10),
@@ -238,32 +221,8 @@ fn worth_of(text: &str, radix: u32) -> Option<u32>
     requires { (2 ≤ radix) × (radix ≤ 16) }
     ensures is { Worth radix text.now result }
 {
-    if has_plus(text) {
-        None
-    } else {
-        u32::from_str_radix(text, radix).ok()
+    if text.starts_with('+') {
+        return None;
     }
-}
-
-fn has_plus(text: &str) -> bool
-    ensures is { result ≡ (slice_index text.now 0 == 43) }
-{
-    let bytes = text.as_bytes();
-    bytes.len() > 0 && bytes[0] == b'+'
-}
-
-fn instruction(
-    heap: Global,
-    name: Option<&str>,
-    operands: Option<&str>,
-) -> Result<Instruction, Problem> {
-    let read = match (name, operands) {
-        (Some(name), Some(operands)) => {
-            let text = format!(in heap; "{name} {operands}")?;
-            assembly::parse(heap, text.as_str())?
-        }
-        (Some(name), None) => assembly::parse(heap, name)?,
-        (None, _) => return Err(Problem::Words),
-    };
-    read.ok_or(Problem::Instruction)
+    u32::from_str_radix(text, radix).ok()
 }
