@@ -1,4 +1,4 @@
-// The script language: a command a line.
+// The script language: a command a line. It stands beside `script`, whose commands stay those that its program answers.
 #![tactic(auto)]
 
 mod code;

@@ -2,7 +2,7 @@
 // in x10, the steps per second too.
 #![tactic(auto)]
 
-use anyhow::anyhow;
+use anyhow::Context;
 use memories::flat::Flat;
 use memory::Memory;
 use policy::rights::Rights;
@@ -24,12 +24,9 @@ const SEED: u32 = 12345;
 
 // The m of a window of so many words.
 fn window_bits(words: usize) -> u32 {
-    for m in 6..14 {
-        if (1usize << m) >= words.saturating_mul(4) {
-            return m;
-        }
-    }
-    14
+    (6..14)
+        .find(|&m| (1usize << m) >= words.saturating_mul(4))
+        .unwrap_or(14)
 }
 
 // One domain over the whole store, entered at its first word.
@@ -40,8 +37,7 @@ fn prepare(yard: &mut Yard, m: u32, argument: u32) -> Result<(), Refusal> {
 }
 
 // A host call is not answered.
-fn run(yard: Yard, buffer: &mut [u8]) -> Result<Report, Refusal> {
-    let mut yard = yard;
+fn run(mut yard: Yard, buffer: &mut [u8]) -> Result<Report, Refusal> {
     let mut memory = Flat::new(buffer);
     match yard.run(&mut memory, &Rights { rows: [0; 8] }, u32::MAX)? {
         Outcome::Ended(report) => Ok(report),
@@ -59,17 +55,14 @@ fn steps_per_second(steps: u32, nanos: u128) -> u128 {
 fn main(rt: HostRuntime) -> anyhow::Result<()> {
     let heap = rt.alloc();
     let mut arguments = env::args(&rt)?.skip(1);
-    let Some(path) = arguments.next() else {
-        return Err(anyhow!("no file"));
-    };
-    let argument = match arguments.next() {
-        Some(text) => Some(text.parse::<u32>()?),
-        None => None,
-    };
+    let path = arguments.next().context("no file")?;
+    let argument = arguments
+        .next()
+        .map(|text| text.parse::<u32>())
+        .transpose()?;
     let bytes = fs::read(&rt, path.as_str())?;
-    let Some(words) = yard_script::words(heap, bytes.as_slice())? else {
-        return Err(anyhow!("the file has no whole number of words"));
-    };
+    let words = yard_script::words(heap, bytes.as_slice())?;
+    let words = words.context("the file has no whole number of words")?;
     let mut yard = Yard::new(heap, words.as_slice(), SIZE)?;
     let m = window_bits(words.len());
     if let Err(refusal) = prepare(&mut yard, m, argument.unwrap_or(1)) {
@@ -85,8 +78,7 @@ fn main(rt: HostRuntime) -> anyhow::Result<()> {
     println!(rt; "{report}")?;
     if argument.is_some() {
         let speed = steps_per_second(report.count, nanos);
-        let steps = report.count;
-        println!(rt; "{steps} steps, {speed} a second")?;
+        println!(rt; "{} steps, {speed} a second", report.count)?;
     }
     Ok(())
 }

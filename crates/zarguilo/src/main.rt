@@ -1,58 +1,41 @@
 // The program: a script in, a line an answer out.
 #![tactic(auto)]
 
-use anyhow::anyhow;
+use anyhow::bail;
 use script::{Command, Fault, Line, Problem, Session};
-use std::io::Read;
-use std::{env, fs};
+use std::{env, fs, io};
 
 // The script: the file that the first argument names, or else standard input.
 fn source(rt: &HostRuntime) -> anyhow::Result<String> {
     match env::args(rt)?.nth(1) {
         Some(path) => Ok(fs::read_to_string(rt, path.as_str())?),
-        None => {
-            let mut text = String::new(rt.alloc());
-            rt.stdin().read_to_string(&mut text)?;
-            Ok(text)
-        }
+        None => Ok(io::read_to_string(rt.alloc(), rt.stdin())?),
     }
 }
 
 // A command that names a file, with the words of the file in its place.
 fn load(rt: &HostRuntime, command: Command) -> Result<Command, Problem> {
     match command {
-        Command::CodeFile(path) => match fs::read(rt, path.as_str()) {
-            Ok(bytes) => match script::words(rt.alloc(), bytes.as_slice()) {
-                Ok(Some(words)) => Ok(Command::Code(words)),
-                Ok(None) => Err(Problem::Length),
-                Err(_) => Err(Problem::Memory),
-            },
-            Err(_) => Err(Problem::File),
-        },
+        Command::CodeFile(path) => {
+            let bytes = fs::read(rt, path.as_str()).map_err(|_| Problem::File)?;
+            let words = script::words(rt.alloc(), bytes.as_slice())?;
+            Ok(Command::Code(words.ok_or(Problem::Length)?))
+        }
         other => Ok(other),
     }
 }
 
-fn load_all(rt: &HostRuntime, lines: Vec<Line>) -> Result<Vec<Command>, Fault> {
+fn commands(rt: &HostRuntime, text: &str) -> Result<Vec<Command>, Fault> {
     let mut commands = Vec::new(rt.alloc());
-    for Line { number, command } in lines {
-        let problem = match load(rt, command) {
-            Ok(command) => match commands.push(command) {
-                Ok(()) => continue,
-                Err(_) => Problem::Memory,
-            },
-            Err(problem) => problem,
-        };
-        return Err(Fault {
+    for Line { number, command } in script::read(rt.alloc(), text)? {
+        let fault = |problem| Fault {
             line: number,
             problem,
-        });
+        };
+        let command = load(rt, command).map_err(fault)?;
+        commands.push(command).map_err(|_| fault(Problem::Memory))?;
     }
     Ok(commands)
-}
-
-fn commands(rt: &HostRuntime, text: &str) -> Result<Vec<Command>, Fault> {
-    load_all(rt, script::read(rt.alloc(), text)?)
 }
 
 fn run(rt: &HostRuntime, commands: Vec<Command>) -> anyhow::Result<()> {
@@ -72,7 +55,7 @@ fn main(rt: HostRuntime) -> anyhow::Result<()> {
         Ok(commands) => run(&rt, commands),
         Err(fault) => {
             eprintln!(rt; "{fault}")?;
-            Err(anyhow!("the script was not run"))
+            bail!("the script was not run")
         }
     }
 }
