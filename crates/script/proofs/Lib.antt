@@ -1,2 +1,1 @@
 mod Chunks
-mod Peeks

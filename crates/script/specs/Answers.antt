@@ -6,13 +6,14 @@ use Rattle.std.specs.Prelude.{◌≡◌, ℕ, List, Some, None, vec_items, Optio
 use Rattle.rv32i.specs.Decoded.{decoded}
 use Rattle.rv32i.specs.Encoded.{encoded}
 use Rattle.refusal.specs.Told.{told_in}
+use Rattle.buffers.specs.Bytes.{peeked}
 use Rattle.policy.specs.Choice.{any_allows}
 use Rattle.code_check.specs.Verdicts.{Verdict, checked}
 use Rattle.script.specs.declared.commands.Command.{Command}
 use Rattle.script.specs.declared.commands.Command.TheVariants as cmd
 use Rattle.script.specs.declared.commands.Answer.{Answer}
 use Rattle.script.specs.declared.commands.Answer.TheVariants as ans
-use Rattle.script.specs.States.{State, peeked}
+use Rattle.script.specs.States.{State}
 
 abbrev pub Peeks : List (Option ℕ) → Option Answer → Type 0
 Peeks bs (Some (ans.Decoded d)) = ⊥

@@ -1,7 +1,6 @@
 // The script language: a command a line, and what each command answers.
 #![tactic(auto)]
 
-mod buffers;
 mod code;
 mod commands;
 mod faults;

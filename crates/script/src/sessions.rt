@@ -3,8 +3,8 @@ ghost use Rattle.std.specs.Prelude.{◌≡◌, IfOk, OnErr, OnOk};
 ghost use Rattle.script.specs.States.{view, start, after};
 ghost use Rattle.script.specs.Answers.{Answers};
 
-use crate::buffers::Buffers;
 use crate::commands::{Answer, Command};
+use buffers::Buffers;
 use code_check::check;
 use policy::Policy;
 use policy::any::AnyPolicy;
