@@ -1,3 +1,2 @@
-mod Peeks
 mod Pendings
 mod Sayings

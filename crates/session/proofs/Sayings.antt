@@ -3,12 +3,13 @@ use Rattle.std.proofs.Common.{◌≡◌, ℕ, ◌+◌, ◌-◌, ◌<◌, ◌≤�
 use Rattle.std.proofs.lemmas.List.{map-append, drop_all}
 use Rattle.std.proofs.lemmas.Slice.{between_to_end}
 use Rattle.std.specs.Option.{option_map, option_to_list}
+use Rattle.buffers.specs.declared.Buffers.{Buffers}
+use Rattle.std.specs.Borrow.{Bor}
 use Rattle.policy.specs.declared.any.AnyPolicy.{AnyPolicy}
 use Rattle.yard_steps.specs.Model.{new_yard}
 use Rattle.yard_script.specs.declared.commands.Command.{Command}
 use Rattle.yard_script.specs.declared.commands.Command.TheVariants as cmd
 use Rattle.session.specs.declared.answers.Answer.{Answer}
-use Rattle.session.specs.declared.buffers.Buffers.{Buffers}
 use Rattle.session.specs.Said.{Said, plain}
 use Rattle.session.specs.Performed.{State, under_yard, performed, answers_of}
 use Rattle.session.specs.Views.{state_of, spoken, following}
@@ -31,14 +32,14 @@ pub yard_more : (s z : State) (c : Command) (n : ℕ) (ts : List Said) → c ≡
 yard_more s z c n ts h e cs = ap (λ x. ts ++ answers_of x cs) e ∙ ap (λ x. ts ++ answers_of s (x ∷ cs)) (sym h)
 
 -- what was said before the first yard, and what is said under it
-pub then_under : (o : Option (ℕ × ℕ)) (n i : ℕ) (memory : Buffers) (policy : AnyPolicy) (code : List ℕ) (cs : List Command) (ts us all : List Said) → o ≡ Some (n, i) →
-    us ≡ ts ++ answers_of (state_of memory policy code true (new_yard code n)) (drop i cs) → ts ++ following o memory policy code cs ≡ all → us ≡ all
-then_under o n i memory policy code cs ts us all e h g = h ∙ (ap (λ x. ts ++ following x memory policy code cs) (sym e) ∙ g)
+pub then_under : (o : Option (ℕ × Bor (List Command))) (n : ℕ) (rest : Bor (List Command)) (memory : Buffers) (policy : AnyPolicy) (code : List ℕ) (ts us all : List Said) → o ≡ Some (n, rest) →
+    us ≡ ts ++ answers_of (state_of memory policy code true (new_yard code n)) rest.now → ts ++ following o memory policy code ≡ all → us ≡ all
+then_under o n rest memory policy code ts us all e h g = h ∙ (ap (λ x. ts ++ following x memory policy code) (sym e) ∙ g)
 
 -- the command at a place was performed
-pub loop_more : (cs : List Command) (i : ℕ) (c : Command) (s z : State) (ts us all : List Said) → i < length cs → c ≡ get_or cs i c →
-    ((ds : List Command) → us ++ answers_of z ds ≡ ts ++ answers_of s (c ∷ ds)) → ts ++ answers_of s (drop i cs) ≡ all → us ++ answers_of z (drop (i + 1) cs) ≡ all
-loop_more cs i c s z ts us all h is e inv = e (drop (i + 1) cs) ∙ (ap (λ l. ts ++ answers_of s l) (next_command cs i c h is) ∙ inv)
+pub loop_more : (cs : List Command) (i : ℕ) (c : Command) (f g : List Command → List Said) (all : List Said) → i < length cs → c ≡ get_or cs i c →
+    ((ds : List Command) → g ds ≡ f (c ∷ ds)) → f (drop i cs) ≡ all → g (drop (i + 1) cs) ≡ all
+loop_more cs i c f g all h is e inv = e (drop (i + 1) cs) ∙ (ap f (next_command cs i c h is) ∙ inv)
 
 -- all of them were
 pub loop_end : (cs : List Command) (i : ℕ) (s : State) (ts all : List Said) → length cs ≤ i → ts ++ answers_of s (drop i cs) ≡ all → ts ++ [] ≡ all

@@ -1,4 +1,3 @@
-pub mod Memories
 pub mod Said
 pub mod Performed
 pub mod Views

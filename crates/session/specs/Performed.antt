@@ -9,6 +9,7 @@ use Rattle.std.specs.Option.{option_to_list}
 use Rattle.rv32i.specs.Decoded.{decoded}
 use Rattle.rv32i.specs.Encoded.{encoded}
 use Rattle.memories.specs.Layout.{counted, woven}
+use Rattle.buffers.specs.Bytes.{peeked, zeros}
 use Rattle.policy.specs.declared.any.AnyPolicy.{AnyPolicy}
 use Rattle.policy.specs.declared.any.AnyPolicy.TheVariants.{Rights, Rings}
 use Rattle.policy.specs.Choice.{any_allows}
@@ -17,7 +18,6 @@ use Rattle.yard_steps.specs.Model.{Yard, new_yard}
 use Rattle.yard_steps.specs.Calls.{Running, admitted, opened, called_from, running, replied, cut_off, register_of}
 use Rattle.yard_script.specs.declared.commands.Command.{Command}
 use Rattle.yard_script.specs.declared.commands.Command.TheVariants as cmd
-use Rattle.session.specs.Memories.{peeked, zeros}
 use Rattle.session.specs.Said.{Said}
 use Rattle.session.specs.Said as said
 

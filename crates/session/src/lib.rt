@@ -2,8 +2,8 @@
 #![tactic(auto)]
 
 mod answers;
-mod buffers;
 mod performing;
+mod runs;
 mod sessions;
 
 pub use answers::Answer;

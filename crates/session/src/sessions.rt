@@ -1,7 +1,7 @@
 ghost use Rattle.std.specs.Prelude.{◌≡◌, is_some};
 ghost use Rattle.yard.specs.Yards.{seen};
 
-use crate::buffers::Buffers;
+use buffers::Buffers;
 use policy::any::AnyPolicy;
 use yard::{Pending, Yard};
 

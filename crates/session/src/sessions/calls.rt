@@ -7,12 +7,13 @@ ghost use Rattle.yard_script.specs.declared.commands.Command.TheVariants as cmd;
 ghost use Rattle.session.specs.Said.{plain};
 ghost use Rattle.session.specs.Said as said;
 ghost use Rattle.session.specs.Performed.{performed, under_yard};
-ghost use Rattle.session.specs.Views.{state_of, view, Calls, Aside};
+ghost use Rattle.session.specs.Views.{state_of, view, Aside};
 ghost use Rattle.session.specs.Holds.{Vacant, holding, reported};
 
 use crate::answers::Answer;
-use crate::buffers::Buffers;
+use crate::runs::run;
 use crate::sessions::Session;
+use buffers::Buffers;
 use code_check::check;
 use policy::Policy;
 use policy::any::AnyPolicy;
@@ -118,42 +119,42 @@ impl<'a> Session<'a> {
             // Its words have not been read, so there are none to append.
             Command::CodeFile(_) => Ok(None),
             Command::Check { base, m } => Ok(Some(Answer::Checked(check(code, *base, *m)))),
-            call => Ok(Some(self.call(call))),
-        }
-    }
-
-    fn call(&mut self, command: &Command) -> Answer
-        requires { Calls command.now }
-        ensures is { (code : List ℕ) (under : Bool) → (view self.new code under, Some (plain result)) ≡ performed command.now (view self.old code under) }
-    {
-        match command {
             Command::Admit {
                 registers,
                 base,
                 m,
                 data,
                 k,
-            } => Answer::Admitted(self.yard.admit(*registers, *base, *m, *data, *k)),
+            } => {
+                let result = self.yard.admit(*registers, *base, *m, *data, *k);
+                Ok(Some(Answer::Admitted(result)))
+            }
             Command::Open {
                 gate,
                 domain,
                 offset,
-            } => Answer::Opened(self.yard.open(*gate, *domain as usize, *offset)),
-            Command::Call { gate, values } => Answer::Called(self.yard.call(*gate, *values)),
-            Command::Run(budget) => Answer::Ran(self.run(*budget)),
-            Command::Reply(value) => Answer::Replied(self.reply(*value)),
-            Command::Cut => Answer::Cut(self.yard.cut()),
-            Command::Register { domain, number } => {
-                Answer::Register(self.yard.register(*domain as usize, *number))
+            } => {
+                let result = self.yard.open(*gate, *domain as usize, *offset);
+                Ok(Some(Answer::Opened(result)))
             }
-            _ => unreachable(),
+            Command::Call { gate, values } => {
+                Ok(Some(Answer::Called(self.yard.call(*gate, *values))))
+            }
+            Command::Run(budget) => Ok(Some(Answer::Ran(self.run(*budget)))),
+            Command::Reply(value) => Ok(Some(Answer::Replied(self.reply(*value)))),
+            Command::Cut => Ok(Some(Answer::Cut(self.yard.cut()))),
+            Command::Register { domain, number } => {
+                let result = self.yard.register(*domain as usize, *number);
+                Ok(Some(Answer::Register(result)))
+            }
+            Command::Code(_) | Command::Yard(_) => unreachable(),
         }
     }
 
     fn run(&mut self, budget: u32) -> Result<Report, Refusal>
         ensures is { (code : List ℕ) (under : Bool) → (view self.new code under, Some (said.Ran (told_in result))) ≡ performed (cmd.Run budget) (view self.old code under) }
     {
-        let outcome = self.memory.run(&mut self.yard, &self.policy, budget);
+        let outcome = run(&mut self.memory, &mut self.yard, &self.policy, budget);
         hold(&mut self.pending, outcome)
     }
 

@@ -1,6 +1,0 @@
-use Rattle.std.proofs.Common.{◌≡◌, vec_items}
-use Rattle.session.specs.Memories.{peeked}
-use Rattle.session.proofs.buffers.peek_in.Given as goal
-
-abbrev pub invariant-loop-i : goal.invariant-loop-i
-invariant-loop-i g l = vec_items l.seen ≡ peeked (g.M.Memory.bytes l.memory) l.address l.i
