@@ -18,6 +18,13 @@ module _ (ws : List ℕ) (cells : List Decoding) (is : cells ≡ map decoded (ta
       let short : i < length (take (counted ws) ws) = omega (arith, cells_length, length-take (counted ws) ws) in
       ap (λ (l : List Decoding). get_or l i x) is ∙ (get_or-map decoded (take (counted ws) ws) i 0 x short ∙ ap decoded (get_or-take (counted ws) ws i 0 few))
 
+  -- a pc that no word has
+  pub unaligned : (pc : ℕ) → (pc % 4 ≡ 0 → ⊥) → fetched ws pc ≡ Err (Fetch pc)
+  unaligned pc ne = cond-false (eqb (pc % 4) 0 && ltb (pc / 4) (counted ws)) _ _ (test (pc % 4) (pc / 4) (counted ws) ne)
+    where
+      test : (r i n : ℕ) → (r ≡ 0 → ⊥) → (eqb r 0 && ltb i n) ≡ false
+      test r i n ne = grind (arith, nat_tests)
+
   -- a pc past the store
   pub past : (pc : ℕ) → length cells ≤ pc / 4 → fetched ws pc ≡ Err (Fetch pc)
   past pc le = cond-false (eqb (pc % 4) 0 && ltb (pc / 4) (counted ws)) _ _ (test (pc % 4) (pc / 4) (counted ws) (omega (arith, cells_length)))

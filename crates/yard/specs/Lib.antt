@@ -1,4 +1,3 @@
-pub mod Lasts
 pub mod Shapes
 pub mod Views
 pub mod Yards

@@ -19,7 +19,7 @@ use Rattle.yard.specs.declared.inners.Inner.{Inner}
 use Rattle.yard.specs.Shapes.{shape, lead, callers}
 
 abbrev pub lead_to : Entry → EntryModel
-lead_to e = record { domain = e.domain; pc = e.pc }
+lead_to e = record { domain = e.domain.number; pc = e.pc }
 
 abbrev pub view : Inner → Yard
 view y = record {
@@ -28,7 +28,7 @@ view y = record {
   domains = map shape y.domains;
   count = y.count;
   gates = map lead y.gates;
-  chain = callers y.chain;
+  chain = callers y.chain.items;
   pending = y.pending;
 }
 

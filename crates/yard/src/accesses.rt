@@ -11,18 +11,9 @@ pub fn load<M: Memory>(memory: &M, op: LoadOp, address: u32) -> u32
     ensures { result ≡ loaded op (M.Memory.bytes memory.now) address }
 {
     let raw = match load_width(op) {
-        Width::Byte => match memory.read(address) {
-            Some(byte) => u32::from(byte),
-            None => 0,
-        },
-        Width::Half => match memory.read_half(address) {
-            Some(half) => u32::from(half),
-            None => 0,
-        },
-        Width::Word => match memory.read_word(address) {
-            Some(word) => word,
-            None => 0,
-        },
+        Width::Byte => u32::from(memory.read(address).unwrap_or(0)),
+        Width::Half => u32::from(memory.read_half(address).unwrap_or(0)),
+        Width::Word => memory.read_word(address).unwrap_or(0),
     };
     extend(op, raw)
 }

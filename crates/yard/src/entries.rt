@@ -1,9 +1,8 @@
-ghost use Rattle.std.specs.Prelude.{◌<◌};
+use crate::slots::Slot;
 
 // Where a gate leads: a domain, and a pc in its window.
 #[derive(Clone, Copy)]
 pub struct Entry {
-    pub domain: usize,
+    pub domain: Slot,
     pub pc: u32,
-    ghost known: { domain < 8 },
 }

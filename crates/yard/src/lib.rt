@@ -2,13 +2,12 @@
 #![tactic(auto)]
 
 mod accesses;
-mod chains;
 mod codes;
 mod domains;
 mod entries;
 mod inners;
 mod pendings;
-mod tables;
+mod slots;
 mod yards;
 
 pub use pendings::{Outcome, Pending};

@@ -14,11 +14,7 @@ const STORE_WORDS: usize = 16384;
 fn decode_all(heap: Global, words: &[u32]) -> Result<Vec<Result<Instruction, Cause>>, AllocError>
     ensures { IfOk result (λ v. v.items ≡ map decoded words.now) }
 {
-    let mut cells = Vec::with_capacity(heap, words.len())?;
-    for word in words {
-        cells.push(decode(*word))?;
-    }
-    Ok(cells)
+    words.iter().map(|word| decode(*word)).collect(heap)
 }
 
 impl<'a> Code<'a> {
@@ -45,10 +41,7 @@ impl<'a> Code<'a> {
         ensures { pointed result ≡ fetched self.now.store.now pc }
     {
         let i = (pc / 4) as usize;
-        if pc % 4 != 0 {
-            return Err(Stop::Fetch { pc });
-        }
-        if i >= self.cells.len() {
+        if pc % 4 != 0 || i >= self.cells.len() {
             return Err(Stop::Fetch { pc });
         }
         match &self.cells[i] {

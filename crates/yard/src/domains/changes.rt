@@ -3,7 +3,7 @@ ghost use Rattle.machine.specs.Registers.{value_of, written};
 ghost use Rattle.machine.specs.Executed.{next_of, executed};
 ghost use Rattle.segment.specs.Guards.{inside};
 ghost use Rattle.segment.specs.Rows.{row};
-ghost use Rattle.yard_steps.specs.States.{is_active};
+ghost use Rattle.yard_steps.specs.States.{is_idle, is_active, is_stopped};
 ghost use Rattle.yard_steps.specs.Model.{nobody};
 ghost use Rattle.yard_steps.specs.Steps.{turned, after, arguments, handed};
 ghost use Rattle.yard_steps.specs.Calls.{fresh, answered};
@@ -51,19 +51,22 @@ impl Domain {
         self.pc
     }
 
-    pub fn state(&self) -> State
-        ensures { result ≡ (shape self.now).state }
+    pub fn is_idle(&self) -> bool
+        ensures { result ≡ is_idle (shape self.now).state }
     {
-        self.state
+        matches!(self.state, State::Idle)
     }
 
     pub fn is_active(&self) -> bool
         ensures { result ≡ is_active (shape self.now).state }
     {
-        match self.state {
-            State::Active => true,
-            _ => false,
-        }
+        matches!(self.state, State::Active)
+    }
+
+    pub fn is_stopped(&self) -> bool
+        ensures { result ≡ is_stopped (shape self.now).state }
+    {
+        matches!(self.state, State::Stopped)
     }
 
     // The code address at an offset of its window.

@@ -8,11 +8,11 @@ ghost use Rattle.yard.specs.Views.{view, lead_to, shaped_in};
 use crate::domains::Domain;
 use crate::entries::Entry;
 use crate::inners::Inner;
+use crate::slots::Slot;
 use code_check::{check, window};
 use domain::start;
 use refusal::Refusal;
 use segment::Segment;
-use yard_steps::State;
 
 impl<'a> Inner<'a> {
     // The domain that is to be admitted.
@@ -26,11 +26,11 @@ impl<'a> Inner<'a> {
     ) -> Result<Domain, Refusal>
         ensures { shaped_in result ≡ admission (view self.now) registers base m «data» k }
     {
-        if self.count() >= 8 {
+        if self.count >= 8 {
             return Err(Refusal::Crowded);
         }
         let _words = window(self.store(), base, m)?;
-        let segment = Segment::new(data, k, self.size())?;
+        let segment = Segment::new(data, k, self.size)?;
         if self.is_near(segment) {
             return Err(Refusal::SegmentNear);
         }
@@ -49,14 +49,10 @@ impl<'a> Inner<'a> {
     ) -> Result<usize, Refusal>
         ensures { (view self.new, told_in result) ≡ admitted (view self.old) registers base m «data» k }
     {
-        let number = self.count();
-        match self.admission(registers, base, m, data, k) {
-            Ok(domain) => {
-                self.add(domain);
-                Ok(number)
-            }
-            Err(refusal) => Err(refusal),
-        }
+        let number = self.count;
+        let domain = self.admission(registers, base, m, data, k)?;
+        self.add(domain);
+        Ok(number)
     }
 
     pub fn open(&mut self, gate: u32, domain: usize, offset: u32) -> Result<(), Refusal>
@@ -65,17 +61,18 @@ impl<'a> Inner<'a> {
         if !is_gate(gate) {
             return Err(Refusal::NoGate);
         }
-        if self.gate(gate as usize).is_some() {
+        if self.gate(gate).is_some() {
             return Err(Refusal::GateTaken);
         }
-        if domain >= self.count() {
+        if domain >= self.count {
             return Err(Refusal::NoDomain);
         }
-        if offset % 4 != 0 || offset >= self.window_size(domain) {
+        let domain = Slot { number: domain };
+        if offset % 4 != 0 || offset >= self.domain(domain).window_size() {
             return Err(Refusal::EntryOffset);
         }
-        let pc = self.address(domain, offset);
-        self.set_gate(gate as usize, Entry { domain, pc });
+        let pc = self.domain(domain).address(offset);
+        self.set_gate(gate, Entry { domain, pc });
         Ok(())
     }
 
@@ -85,7 +82,7 @@ impl<'a> Inner<'a> {
         if !is_gate(gate) {
             return Err(Refusal::NoGate);
         }
-        match self.gate(gate as usize) {
+        match self.gate(gate) {
             None => Err(Refusal::GateEmpty),
             Some(entry) => self.call_through(entry, values),
         }
@@ -94,13 +91,13 @@ impl<'a> Inner<'a> {
     fn call_through(&mut self, entry: Entry, values: [u32; 7]) -> Result<(), Refusal>
         ensures { (view self.new, told_in result) ≡ through_gate (Some (lead_to entry)) values (view self.old) }
     {
-        if self.is_pending() {
+        if self.pending {
             return Err(Refusal::HostPending);
         }
         if self.has_active() {
             return Err(Refusal::DomainActive);
         }
-        if self.is_stopped(entry.domain) {
+        if self.domain(entry.domain).is_stopped() {
             return Err(Refusal::DomainStopped);
         }
         self.enter(entry, values);
@@ -111,7 +108,7 @@ impl<'a> Inner<'a> {
     pub fn reply(&mut self, value: u32) -> Result<(), Refusal>
         ensures { (view self.new, told_in result) ≡ replied (view self.old) value }
     {
-        if !self.is_pending() {
+        if !self.pending {
             return Err(Refusal::NonePending);
         }
         self.answer(self.current(), value);
@@ -122,7 +119,7 @@ impl<'a> Inner<'a> {
     pub fn cut(&mut self) -> Result<(), Refusal>
         ensures { (view self.new, told_in result) ≡ cut_off (view self.old) }
     {
-        if self.is_pending() {
+        if self.pending {
             return Err(Refusal::HostPending);
         }
         if !self.has_active() {
@@ -135,13 +132,14 @@ impl<'a> Inner<'a> {
     pub fn read_register(&self, domain: usize, number: u32) -> Result<u32, Refusal>
         ensures { told_in result ≡ register_of (view self.now) domain number }
     {
-        if domain >= self.count() {
+        if domain >= self.count {
             return Err(Refusal::NoDomain);
         }
         if number > 31 {
             return Err(Refusal::NoRegister);
         }
-        Ok(self.register(domain, number as u8))
+        let domain = Slot { number: domain };
+        Ok(self.domain(domain).register(number as u8))
     }
 }
 

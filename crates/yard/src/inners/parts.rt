@@ -1,26 +1,33 @@
 // The parts of a yard, each by what it stands for in the model.
-ghost use Rattle.std.specs.Prelude.{◌≡◌, ℕ, ◌+◌, ◌^◌, ◌<◌, ◌≤◌, false, [], ◌∷◌, length, IfSome, IfOk};
+ghost use Rattle.std.specs.Prelude.{◌≡◌, ◌<◌, false, [], ◌∷◌, map, take, length, option_map, IfOk};
 ghost use Rattle.segment.specs.Rows.{row};
-ghost use Rattle.machine.specs.Registers.{value_of, written};
-ghost use Rattle.machine.specs.Executed.{executed};
-ghost use Rattle.yard_steps.specs.States.{is_idle, is_stopped};
+ghost use Rattle.machine.specs.Registers.{written};
 ghost use Rattle.yard_steps.specs.Model.{new_yard, at, put, chained, current, gate_at, mapped, some_active};
-ghost use Rattle.yard_steps.specs.Steps.{turned, after, fetched, behind, arguments, entered, rest};
+ghost use Rattle.yard_steps.specs.Steps.{turned, after, fetched, behind, entered, rest};
 ghost use Rattle.yard_steps.specs.Calls.{near, with_domain, with_entry, answered};
-ghost use Rattle.yard.specs.Shapes.{shape, lead, next_in, pointed};
+ghost use Rattle.yard.specs.Shapes.{shape, lead, number_of, next_in, pointed};
 ghost use Rattle.yard.specs.Views.{view, lead_to, without_active};
 
-use crate::chains::Chain;
 use crate::codes::Code;
 use crate::domains::Domain;
 use crate::entries::Entry;
 use crate::inners::Inner;
-use crate::tables;
-use machine::{Effect, Stop};
+use crate::slots::Slot;
+use arrayvec::ArrayVec;
+use machine::Stop;
 use rv32i::Instruction;
 use segment::Segment;
 use std::alloc::{AllocError, Global};
-use yard_steps::{Event, State};
+use yard_steps::Event;
+
+// Something happens to every domain.
+fn meet_all(domains: &mut [Domain; 8], event: Event)
+    ensures { map shape domains.new ≡ map (after event) (map shape domains.old) }
+{
+    for domain in domains.iter_mut() {
+        domain.meet(event);
+    }
+}
 
 impl<'a> Inner<'a> {
     pub fn new(heap: Global, store: &'a [u32], size: u32) -> Result<Inner<'a>, AllocError>
@@ -33,7 +40,7 @@ impl<'a> Inner<'a> {
             domains: [Domain::nobody(); 8],
             count: 0,
             gates: [None; 31],
-            chain: Chain::new(),
+            chain: ArrayVec::new(),
             pending: false,
         })
     }
@@ -56,13 +63,6 @@ impl<'a> Inner<'a> {
         self.size
     }
 
-    pub fn count(&self) -> usize
-        ensures is { result ≡ (view self.now).count }
-        ensures few { result ≤ 8 }
-    {
-        self.count
-    }
-
     pub fn is_pending(&self) -> bool
         ensures { result ≡ (view self.now).pending }
     {
@@ -75,189 +75,134 @@ impl<'a> Inner<'a> {
         self.code.fetch(pc)
     }
 
-    pub fn current(&self) -> usize
-        ensures is { result ≡ current (view self.now) }
-        ensures known { result < 8 }
+    // The current domain; the first of the table where there is none.
+    pub fn current(&self) -> Slot
+        ensures { result.number ≡ current (view self.now) }
     {
-        self.chain.current()
+        self.first().unwrap_or_default()
     }
 
     // The current domain, if there is one.
-    pub fn first(&self) -> Option<usize>
-        ensures is { result ≡ next_in (view self.now).chain }
-        ensures known { IfSome result (λ i. i < 8) }
+    pub fn first(&self) -> Option<Slot>
+        ensures { option_map number_of result ≡ next_in (view self.now).chain }
     {
-        self.chain.first()
+        self.chain.last().copied()
     }
 
-    pub fn pc(&self, i: usize) -> u32
-        requires { i < 8 }
-        ensures { result ≡ (at (view self.now) i).pc }
+    pub fn domain(&self, i: Slot) -> &Domain
+        ensures { shape result.now ≡ at (view self.now) i.number }
     {
-        tables::pc(&self.domains, i)
+        &self.domains[i.number]
     }
 
-    pub fn state(&self, i: usize) -> State
-        requires { i < 8 }
-        ensures { result ≡ (at (view self.now) i).state }
+    // The domains that are there.
+    fn present(&self) -> &[Domain]
+        ensures { result.now ≡ take self.now.count self.now.domains }
     {
-        tables::state(&self.domains, i)
+        &self.domains[..self.count]
     }
 
-    pub fn is_idle(&self, i: usize) -> bool
-        requires { i < 8 }
-        ensures { result ≡ is_idle (at (view self.now) i).state }
-    {
-        match self.state(i) {
-            State::Idle => true,
-            _ => false,
-        }
-    }
-
-    pub fn is_stopped(&self, i: usize) -> bool
-        requires { i < 8 }
-        ensures { result ≡ is_stopped (at (view self.now) i).state }
-    {
-        match self.state(i) {
-            State::Stopped => true,
-            _ => false,
-        }
-    }
-
-    pub fn address(&self, i: usize, offset: u32) -> u32
-        requires { (i < 8) × (offset < 2 ^ (at (view self.now) i).m) }
-        ensures { result ≡ (at (view self.now) i).base + offset }
-    {
-        tables::address(&self.domains, i, offset)
-    }
-
-    pub fn window_size(&self, i: usize) -> u32
-        requires { i < 8 }
-        ensures { result ≡ 2 ^ (at (view self.now) i).m }
-    {
-        tables::window_size(&self.domains, i)
-    }
-
-    pub fn register(&self, i: usize, r: u8) -> u32
-        requires { i < 8 }
-        ensures { result ≡ value_of (at (view self.now) i).registers r }
-    {
-        tables::register(&self.domains, i, r)
-    }
-
-    pub fn arguments(&self, i: usize) -> [u32; 7]
-        requires { i < 8 }
-        ensures { result ≡ arguments (at (view self.now) i).registers }
-    {
-        tables::arguments(&self.domains, i)
-    }
-
-    pub fn effect(&self, i: usize, instruction: &Instruction) -> Effect
-        requires { i < 8 }
-        ensures { result ≡ executed instruction.now (at (view self.now) i).registers (at (view self.now) i).pc }
-    {
-        tables::effect(&self.domains, i, instruction)
-    }
-
+    // Whether the byte at an address is one of the segment of some domain.
     pub fn is_mapped(&self, address: u32) -> bool
         ensures { result ≡ mapped (view self.now) address }
     {
-        tables::mapped(&self.domains, self.count, address)
+        self.present().iter().any(|domain| domain.holds(address))
     }
 
+    // Whether the guard zone is missing between a segment and that of some domain.
     pub fn is_near(&self, segment: Segment) -> bool
         ensures { result ≡ near (view self.now) (row segment) }
     {
-        tables::near(&self.domains, self.count, segment)
+        self.present()
+            .iter()
+            .any(|domain| !segment.apart(domain.segment()))
     }
 
     pub fn has_active(&self) -> bool
         ensures { result ≡ some_active (view self.now) }
     {
-        tables::some_active(&self.domains, self.count)
+        self.present().iter().any(|domain| domain.is_active())
     }
 
-    pub fn gate(&self, g: usize) -> Option<Entry>
-        requires { g < 31 }
-        ensures { lead result ≡ gate_at (view self.now) g }
+    // Where a gate leads, if it is one and open.
+    pub fn gate(&self, gate: u32) -> Option<Entry>
+        ensures { lead result ≡ gate_at (view self.now) gate }
     {
-        tables::gate(&self.gates, g)
+        self.gates.get(gate as usize).copied().flatten()
     }
 
-    pub fn write(&mut self, i: usize, rd: u8, value: u32, pc: u32)
-        requires { i < 8 }
-        ensures { view self.new ≡ put (view self.old) i (turned (at (view self.old) i) (written (at (view self.old) i).registers rd value) pc) }
+    pub fn write(&mut self, i: Slot, rd: u8, value: u32, pc: u32)
+        ensures { view self.new ≡ put (view self.old) i.number (turned (at (view self.old) i.number) (written (at (view self.old) i.number).registers rd value) pc) }
     {
-        tables::write(&mut self.domains, i, rd, value, pc);
+        let domains = &mut self.domains;
+        domains[i.number].write(rd, value, pc);
     }
 
-    pub fn jump(&mut self, i: usize, pc: u32)
-        requires { i < 8 }
-        ensures { view self.new ≡ put (view self.old) i (turned (at (view self.old) i) (at (view self.old) i).registers pc) }
+    pub fn jump(&mut self, i: Slot, pc: u32)
+        ensures { view self.new ≡ put (view self.old) i.number (turned (at (view self.old) i.number) (at (view self.old) i.number).registers pc) }
     {
-        tables::jump(&mut self.domains, i, pc);
+        let domains = &mut self.domains;
+        domains[i.number].jump(pc);
     }
 
-    pub fn leave(&mut self, i: usize, event: Event)
-        requires { i < 8 }
-        ensures { view self.new ≡ put (view self.old) i (after event (behind i (view self.old))) }
+    pub fn leave(&mut self, i: Slot, event: Event)
+        ensures { view self.new ≡ put (view self.old) i.number (after event (behind i.number (view self.old))) }
     {
-        tables::leave(&mut self.domains, i, event);
+        let domains = &mut self.domains;
+        domains[i.number].leave(event);
     }
 
-    pub fn meet(&mut self, i: usize, event: Event)
-        requires { i < 8 }
-        ensures { view self.new ≡ put (view self.old) i (after event (at (view self.old) i)) }
+    pub fn meet(&mut self, i: Slot, event: Event)
+        ensures { view self.new ≡ put (view self.old) i.number (after event (at (view self.old) i.number)) }
     {
-        tables::meet(&mut self.domains, i, event);
+        let domains = &mut self.domains;
+        domains[i.number].meet(event);
     }
 
-    pub fn take_back(&mut self, i: usize, first: u32, second: u32)
-        requires { i < 8 }
-        ensures { view self.new ≡ put (view self.old) i (turned (at (view self.old) i) (written (written (at (view self.old) i).registers 10 first) 11 second) (at (view self.old) i).pc) }
+    pub fn take_back(&mut self, i: Slot, first: u32, second: u32)
+        ensures { view self.new ≡ put (view self.old) i.number (turned (at (view self.old) i.number) (written (written (at (view self.old) i.number).registers 10 first) 11 second) (at (view self.old) i.number).pc) }
     {
-        tables::take_back(&mut self.domains, i, first, second);
+        let domains = &mut self.domains;
+        domains[i.number].take_back(first, second);
     }
 
     pub fn enter(&mut self, entry: Entry, values: [u32; 7])
-        ensures { view self.new ≡ put (view self.old) entry.domain (entered values (lead_to entry) (at (view self.old) entry.domain)) }
+        ensures { view self.new ≡ put (view self.old) entry.domain.number (entered values (lead_to entry) (at (view self.old) entry.domain.number)) }
     {
-        tables::enter(&mut self.domains, entry.domain, values, entry.pc);
+        let domains = &mut self.domains;
+        domains[entry.domain.number].enter(values, entry.pc);
     }
 
-    pub fn answer(&mut self, i: usize, value: u32)
-        requires { i < 8 }
-        ensures { view self.new ≡ put (view self.old) i (answered value (at (view self.old) i)) }
+    pub fn answer(&mut self, i: Slot, value: u32)
+        ensures { view self.new ≡ put (view self.old) i.number (answered value (at (view self.old) i.number)) }
     {
-        tables::answer(&mut self.domains, i, value);
+        let domains = &mut self.domains;
+        domains[i.number].answer(value);
     }
 
     // The current domain leaves the chain.
     pub fn pop(&mut self)
         ensures { view self.new ≡ chained (view self.old) (rest (view self.old).chain) false }
     {
-        let chain = self.chain.rest();
-        self.chain = chain;
+        self.chain.pop();
         self.pending = false;
     }
 
     // A domain becomes the current one.
-    pub fn push(&mut self, i: usize)
-        requires { (i < 8) × (length (view self.old).chain < 8) }
-        ensures { view self.new ≡ chained (view self.old) (i ∷ (view self.old).chain) false }
+    pub fn push(&mut self, i: Slot)
+        requires { length (view self.old).chain < 8 }
+        ensures { view self.new ≡ chained (view self.old) (i.number ∷ (view self.old).chain) false }
     {
-        let chain = self.chain.with(i);
-        self.chain = chain;
+        self.chain.push(i);
         self.pending = false;
     }
 
     // A domain becomes the only one on the chain.
-    pub fn begin(&mut self, i: usize)
-        requires { i < 8 }
-        ensures { view self.new ≡ chained (view self.old) (i ∷ []) false }
+    pub fn begin(&mut self, i: Slot)
+        ensures { view self.new ≡ chained (view self.old) (i.number ∷ []) false }
     {
-        let chain = Chain::new().with(i);
-        self.chain = chain;
+        self.chain.clear();
+        self.chain.push(i);
         self.pending = false;
     }
 
@@ -273,24 +218,23 @@ impl<'a> Inner<'a> {
         requires { (view self.old).count < 8 }
         ensures { view self.new ≡ with_domain (view self.old) (shape domain) }
     {
-        let i = self.count;
-        tables::put(&mut self.domains, i, domain);
-        self.count = i + 1;
+        self.domains[self.count] = domain;
+        self.count += 1;
     }
 
-    pub fn set_gate(&mut self, g: usize, entry: Entry)
-        requires { g < 31 }
-        ensures { view self.new ≡ with_entry (view self.old) g (lead_to entry) }
+    pub fn set_gate(&mut self, gate: u32, entry: Entry)
+        requires { gate < 31 }
+        ensures { view self.new ≡ with_entry (view self.old) gate (lead_to entry) }
     {
-        tables::set_gate(&mut self.gates, g, entry);
+        self.gates[gate as usize] = Some(entry);
     }
 
     // Every active domain stops.
     pub fn stop_all(&mut self)
         ensures { view self.new ≡ without_active (view self.old) }
     {
-        tables::meet_all(&mut self.domains, Event::Cut);
-        self.chain = Chain::new();
+        meet_all(&mut self.domains, Event::Cut);
+        self.chain.clear();
         self.pending = false;
     }
 }

@@ -10,11 +10,12 @@ ghost use Rattle.yard.specs.Views.{view, lead_to, Ready, afterwards};
 use crate::accesses::{load, store};
 use crate::entries::Entry;
 use crate::inners::Inner;
+use crate::slots::Slot;
 use machine::{Datum, Effect, Stop, next_pc};
 use memory::Memory;
 use policy::Policy;
 use rv32i::LoadOp;
-use yard_steps::{Ending, Event, Reason, State};
+use yard_steps::{Ending, Event, Reason};
 
 impl<'a> Inner<'a> {
     // The current domain, if there is one, gets two numbers.
@@ -34,15 +35,14 @@ impl<'a> Inner<'a> {
         self.tell(first, second);
     }
 
-    fn halt(&mut self, i: usize, stop: Stop) -> Option<Ending>
-        requires { i < 8 }
-        ensures { (bs : List ℕ) → afterwards (view self.new) bs result ≡ halted stop i (view self.old) bs }
+    fn halt(&mut self, i: Slot, stop: Stop) -> Option<Ending>
+        ensures { (bs : List ℕ) → afterwards (view self.new) bs result ≡ halted stop i.number (view self.old) bs }
     {
         let cause = u32::from(stop.number());
         let ending = Ending {
             reason: Reason::Stopped,
-            domain: i,
-            pc: self.pc(i),
+            domain: i.number,
+            pc: self.domain(i).pc(),
             first: cause,
             second: stop.detail(),
         };
@@ -51,22 +51,20 @@ impl<'a> Inner<'a> {
         Some(ending)
     }
 
-    fn ending(&self, reason: Reason, i: usize) -> Ending
-        requires { i < 8 }
-        ensures { result ≡ ending reason i (view self.now) }
+    fn ending(&self, reason: Reason, i: Slot) -> Ending
+        ensures { result ≡ ending reason i.number (view self.now) }
     {
         Ending {
             reason,
-            domain: i,
-            pc: self.pc(i),
-            first: self.register(i, 10),
-            second: self.register(i, 11),
+            domain: i.number,
+            pc: self.domain(i).pc(),
+            first: self.domain(i).register(10),
+            second: self.domain(i).register(11),
         }
     }
 
-    fn host(&mut self, i: usize) -> Option<Ending>
-        requires { i < 8 }
-        ensures { (bs : List ℕ) → afterwards (view self.new) bs result ≡ hosted i (view self.old) bs }
+    fn host(&mut self, i: Slot) -> Option<Ending>
+        ensures { (bs : List ℕ) → afterwards (view self.new) bs result ≡ hosted i.number (view self.old) bs }
     {
         let ending = self.ending(Reason::Host, i);
         self.leave(i, Event::Host);
@@ -74,9 +72,8 @@ impl<'a> Inner<'a> {
         Some(ending)
     }
 
-    fn come_back(&mut self, i: usize) -> Option<Ending>
-        requires { i < 8 }
-        ensures { (bs : List ℕ) → afterwards (view self.new) bs result ≡ returned_to (rest (view self.old).chain) i (view self.old) bs }
+    fn come_back(&mut self, i: Slot) -> Option<Ending>
+        ensures { (bs : List ℕ) → afterwards (view self.new) bs result ≡ returned_to (rest (view self.old).chain) i.number (view self.old) bs }
     {
         let ending = self.ending(Reason::Finished, i);
         self.leave(i, Event::Return);
@@ -90,11 +87,11 @@ impl<'a> Inner<'a> {
         }
     }
 
-    fn through_gate<P: Policy>(&mut self, policy: &P, i: usize, gate: u32) -> Option<Ending>
-        requires { (i < 8) × ((gate < 31) × (Ready i (view self.old))) }
-        ensures { (bs : List ℕ) → afterwards (view self.new) bs result ≡ gated (P.Policy.allowed policy.now) (gate_at (view self.old) gate) gate i (view self.old) bs }
+    fn through_gate<P: Policy>(&mut self, policy: &P, i: Slot, gate: u32) -> Option<Ending>
+        requires { Ready i.number (view self.old) }
+        ensures { (bs : List ℕ) → afterwards (view self.new) bs result ≡ gated (P.Policy.allowed policy.now) (gate_at (view self.old) gate) gate i.number (view self.old) bs }
     {
-        match self.gate(gate as usize) {
+        match self.gate(gate) {
             None => self.halt(i, Stop::NoGate { gate }),
             Some(entry) => self.call_entry(policy, i, gate, entry),
         }
@@ -103,77 +100,73 @@ impl<'a> Inner<'a> {
     fn call_entry<P: Policy>(
         &mut self,
         policy: &P,
-        i: usize,
+        i: Slot,
         gate: u32,
         entry: Entry,
     ) -> Option<Ending>
-        requires { (i < 8) × (Ready i (view self.old)) }
-        ensures { (bs : List ℕ) → afterwards (view self.new) bs result ≡ gated (P.Policy.allowed policy.now) (Some (lead_to entry)) gate i (view self.old) bs }
+        requires { Ready i.number (view self.old) }
+        ensures { (bs : List ℕ) → afterwards (view self.new) bs result ≡ gated (P.Policy.allowed policy.now) (Some (lead_to entry)) gate i.number (view self.old) bs }
     {
-        if !policy.allows(i, gate) {
+        if !policy.allows(i.number, gate) {
             return self.halt(i, Stop::Forbidden { gate });
         }
-        if !self.is_idle(entry.domain) {
+        if !self.domain(entry.domain).is_idle() {
             return self.halt(i, Stop::Busy { gate });
         }
-        let values = self.arguments(i);
-        self.jump(i, next_pc(self.pc(i)));
+        let values = self.domain(i).arguments();
+        self.jump(i, next_pc(self.domain(i).pc()));
         self.enter(entry, values);
         self.push(entry.domain);
         None
     }
 
-    fn environment_call<P: Policy>(&mut self, policy: &P, i: usize) -> Option<Ending>
-        requires { (i < 8) × (Ready i (view self.old)) }
-        ensures { (bs : List ℕ) → afterwards (view self.new) bs result ≡ called (P.Policy.allowed policy.now) i (view self.old) bs }
+    fn environment_call<P: Policy>(&mut self, policy: &P, i: Slot) -> Option<Ending>
+        requires { Ready i.number (view self.old) }
+        ensures { (bs : List ℕ) → afterwards (view self.new) bs result ≡ called (P.Policy.allowed policy.now) i.number (view self.old) bs }
     {
-        let gate = self.register(i, 17);
+        let gate = self.domain(i).register(17);
         if gate == 0 {
             self.host(i)
         } else if gate == 31 {
             self.come_back(i)
-        } else if gate < 31 {
-            self.through_gate(policy, i, gate)
         } else {
-            self.halt(i, Stop::NoGate { gate })
+            self.through_gate(policy, i, gate)
         }
     }
 
     fn read<M: Memory>(
         &mut self,
         memory: &M,
-        i: usize,
+        i: Slot,
         op: LoadOp,
         rd: u8,
         address: u32,
     ) -> Option<Ending>
-        requires { i < 8 }
-        ensures { (A : ℕ → ℕ → Bool) → afterwards (view self.new) (M.Memory.bytes memory.now) result ≡ done A i (effect.Read op rd address) (view self.old) (M.Memory.bytes memory.now) }
+        ensures { (A : ℕ → ℕ → Bool) → afterwards (view self.new) (M.Memory.bytes memory.now) result ≡ done A i.number (effect.Read op rd address) (view self.old) (M.Memory.bytes memory.now) }
     {
         if !self.is_mapped(address) {
             return self.halt(i, Stop::Unmapped { address });
         }
         let value = load(memory, op, address);
-        self.write(i, rd, value, next_pc(self.pc(i)));
+        self.write(i, rd, value, next_pc(self.domain(i).pc()));
         None
     }
 
     fn save<M: Memory>(
         &mut self,
         memory: &mut M,
-        i: usize,
+        i: Slot,
         address: u32,
         datum: Datum,
     ) -> Option<Ending>
-        requires { i < 8 }
-        ensures is { (A : ℕ → ℕ → Bool) → afterwards (view self.new) (M.Memory.bytes memory.new) result ≡ done A i (effect.Write address datum) (view self.old) (M.Memory.bytes memory.old) }
+        ensures is { (A : ℕ → ℕ → Bool) → afterwards (view self.new) (M.Memory.bytes memory.new) result ≡ done A i.number (effect.Write address datum) (view self.old) (M.Memory.bytes memory.old) }
         ensures lent { M.Memory.lent memory.new ≡ M.Memory.lent memory.old }
     {
         if !self.is_mapped(address) {
             return self.halt(i, Stop::Unmapped { address });
         }
         store(memory, address, datum);
-        self.jump(i, next_pc(self.pc(i)));
+        self.jump(i, next_pc(self.domain(i).pc()));
         None
     }
 
@@ -181,16 +174,16 @@ impl<'a> Inner<'a> {
         &mut self,
         memory: &mut M,
         policy: &P,
-        i: usize,
+        i: Slot,
         effect: Effect,
     ) -> Option<Ending>
-        requires { (i < 8) × (Ready i (view self.old)) }
-        ensures is { afterwards (view self.new) (M.Memory.bytes memory.new) result ≡ done (P.Policy.allowed policy.now) i effect (view self.old) (M.Memory.bytes memory.old) }
+        requires { Ready i.number (view self.old) }
+        ensures is { afterwards (view self.new) (M.Memory.bytes memory.new) result ≡ done (P.Policy.allowed policy.now) i.number effect (view self.old) (M.Memory.bytes memory.old) }
         ensures lent { M.Memory.lent memory.new ≡ M.Memory.lent memory.old }
     {
         match effect {
             Effect::Set { rd, value } => {
-                self.write(i, rd, value, next_pc(self.pc(i)));
+                self.write(i, rd, value, next_pc(self.domain(i).pc()));
                 None
             }
             Effect::Read { op, rd, address } => self.read(memory, i, op, rd, address),
@@ -204,7 +197,7 @@ impl<'a> Inner<'a> {
                 None
             }
             Effect::Next => {
-                self.jump(i, next_pc(self.pc(i)));
+                self.jump(i, next_pc(self.domain(i).pc()));
                 None
             }
             Effect::Call => self.environment_call(policy, i),
@@ -218,9 +211,9 @@ impl<'a> Inner<'a> {
         ensures lent { M.Memory.lent memory.new ≡ M.Memory.lent memory.old }
     {
         let i = self.current();
-        match self.fetch(self.pc(i)) {
+        match self.fetch(self.domain(i).pc()) {
             Ok(instruction) => {
-                let effect = self.effect(i, instruction);
+                let effect = self.domain(i).effect(instruction);
                 self.apply(memory, policy, i, effect)
             }
             Err(stop) => self.halt(i, stop),

@@ -71,8 +71,8 @@ impl<'a> Yard<'a> {
         Report {
             reason: Reason::Spent,
             count,
-            domain,
-            pc: self.inner.pc(domain),
+            domain: domain.number,
+            pc: self.inner.domain(domain).pc(),
             first: 0,
             second: 0,
         }

@@ -1,0 +1,14 @@
+use Rattle.std.proofs.Common.{◌∙◌, take, rules, tests, arith}
+use Rattle.std.proofs.lemmas.Iterator.{YieldsList-from_slice}
+use Rattle.std.proofs.lemmas.Iterator.Search.{any_from_yields_List}
+use Rattle.segment.specs.Guards.{inside}
+use Rattle.segment.specs.Rows.{row}
+use Rattle.yard.specs.declared.domains.Domain.{Domain}
+use Rattle.yard.proofs.Rows.{any_row}
+use Rattle.yard.proofs.inners.Inner.is_mapped.Goals as goal
+
+pub returns : goal.returns
+returns c =
+    let y = c.args.self.now in
+    any_from_yields_List (λ (d : Domain). inside (row d.segment) c.args.address) _ _ _ c.any.ensures.ran (YieldsList-from_slice (take y.count y.domains) cc) (λ x b q k. search (rules, tests))
+    ∙ any_row (λ d. inside d.segment c.args.address) y.domains y.count (omega arith)

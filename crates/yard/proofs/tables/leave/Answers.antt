@@ -1,8 +1,0 @@
-use Rattle.std.proofs.Common.{arith}
-use Rattle.machine.specs.Executed.{next_of}
-use Rattle.yard_steps.specs.Steps.{turned, after}
-use Rattle.yard.proofs.Rows.{changed}
-use Rattle.yard.proofs.tables.leave.Goals as goal
-
-pub returns : goal.returns
-returns c = changed c.args.ds.now c.args.i c.index-ds-i.result _ (λ d. after c.args.event (turned d d.registers (next_of d.pc))) (omega arith) c.leave.ensures
