@@ -19,6 +19,7 @@ pub fn stamp<M: Memory>(memory: &mut M, address: u32)
 
 // The same of the one buffer of a flat memory. A step of its own: with stamp called where the memory is made, nothing ties
 // what the buffer holds in the end to the memory, and three forms of that got no proof.
+#[tactic(auto, using(memories::proofs::Lending::flat_lender))]
 fn stamp_flat(memory: &mut Flat, address: u32)
     ensures bytes { memory.new.buffer.now ≡ stamped (counted memory.old.buffer.now) address ++ uncounted memory.old.buffer.now }
     ensures lent { memory.new.buffer.ghost_name ≡ memory.old.buffer.ghost_name }
