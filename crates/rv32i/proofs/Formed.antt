@@ -1,19 +1,16 @@
 -- A word that a format gives has the opcode, the codes, the registers and the immediate that it was given.
-use Rattle.std.proofs.Common.{◌≡◌, ℕ, ◌+◌, ◌*◌, ◌%◌, ◌^◌, ◌<◌, Bool, true, false, ℤ, Some, refl, ap, ◌∙◌, arith}
+use Rattle.std.proofs.Common.{◌≡◌, ℕ, ◌+◌, ◌*◌, ◌%◌, ◌^◌, ◌<◌, true, ℤ, Some, refl, ap, ◌∙◌, arith}
 use Rattle.std.proofs.lemmas.Bool.Decides.{nat_tests}
+use Rattle.std.proofs.lemmas.Option.{cond_some}
 use Rattle.rv32i.specs.Fields.{bits, signed}
 use Rattle.rv32i.specs.Listing.{TypeR, TypeI, TypeS, TypeB, TypeU, TypeJ}
-use Rattle.rv32i.specs.Encoded.{given, twos, short, form_r, form_i, form_s, form_b, form_u, form_j}
+use Rattle.rv32i.specs.Encoded.{twos, short, form_r, form_i, form_s, form_b, form_u, form_j}
 use Rattle.rv32i.proofs.Twos.{signed_twos, twos_lt}
 use Rattle.rv32i.proofs.Words.{fields_r, fields_i, fields_b, fields_u, fields_j, joined_s, joined_b, joined_u, joined_j}
 
-given_some : (b : Bool) (x w : ℕ) → given b x ≡ Some w → (b ≡ true) × (x ≡ w)
-given_some true x w e = (refl, cc)
-given_some false x w e = let z : ◌≡◌ {A = ℕ} 0 1 = cc in absurd (omega arith)
-
 pub from_r : (op rd f3 rs1 rs2 f7 w : ℕ) → op < 128 → f3 < 8 → f7 < 128 → form_r op rd f3 rs1 rs2 f7 ≡ Some w → TypeR w op f3 f7 rd rs1 rs2
 from_r op rd f3 rs1 rs2 f7 w a c f e =
-    let g = given_some _ _ w e in
+    let g = cond_some _ _ w e in
     let h1 : rd < 32 = grind (arith, nat_tests, g.0) in
     let h2 : rs1 < 32 = grind (arith, nat_tests, g.0) in
     let h3 : rs2 < 32 = grind (arith, nat_tests, g.0) in
@@ -21,7 +18,7 @@ from_r op rd f3 rs1 rs2 f7 w a c f e =
 
 pub from_i : (op rd f3 rs1 w : ℕ) (z : ℤ) → op < 128 → f3 < 8 → form_i op rd f3 rs1 z ≡ Some w → TypeI w op f3 rd rs1 z
 from_i op rd f3 rs1 w z a c e =
-    let g = given_some _ _ w e in
+    let g = cond_some _ _ w e in
     let h1 : rd < 32 = grind (arith, nat_tests, g.0) in
     let h2 : rs1 < 32 = grind (arith, nat_tests, g.0) in
     let h3 : short 12 z ≡ true = grind (arith, nat_tests, g.0) in
@@ -30,7 +27,7 @@ from_i op rd f3 rs1 w z a c e =
 
 pub from_s : (op f3 rs1 rs2 w : ℕ) (z : ℤ) → op < 128 → f3 < 8 → form_s op f3 rs1 rs2 z ≡ Some w → TypeS w op f3 rs1 rs2 z
 from_s op f3 rs1 rs2 w z a c e =
-    let g = given_some _ _ w e in
+    let g = cond_some _ _ w e in
     let h1 : rs1 < 32 = grind (arith, nat_tests, g.0) in
     let h2 : rs2 < 32 = grind (arith, nat_tests, g.0) in
     let h3 : short 12 z ≡ true = grind (arith, nat_tests, g.0) in
@@ -42,7 +39,7 @@ from_s op f3 rs1 rs2 w z a c e =
 
 pub from_b : (op f3 rs1 rs2 w : ℕ) (z : ℤ) → op < 128 → f3 < 8 → form_b op f3 rs1 rs2 z ≡ Some w → TypeB w op f3 rs1 rs2 z
 from_b op f3 rs1 rs2 w z a c e =
-    let g = given_some _ _ w e in
+    let g = cond_some _ _ w e in
     let h1 : rs1 < 32 = grind (arith, nat_tests, g.0) in
     let h2 : rs2 < 32 = grind (arith, nat_tests, g.0) in
     let h3 : short 13 z ≡ true = grind (arith, nat_tests, g.0) in
@@ -59,7 +56,7 @@ from_b op f3 rs1 rs2 w z a c e =
 
 pub from_u : (op rd w : ℕ) (z : ℤ) → op < 128 → form_u op rd z ≡ Some w → TypeU w op rd z
 from_u op rd w z a e =
-    let g = given_some _ _ w e in
+    let g = cond_some _ _ w e in
     let h1 : rd < 32 = grind (arith, nat_tests, g.0) in
     let h3 : short 32 z ≡ true = grind (arith, nat_tests, g.0) in
     let h4 : twos 32 z % 2 ^ 12 ≡ 0 = grind (arith, nat_tests, g.0) in
@@ -69,7 +66,7 @@ from_u op rd w z a e =
 
 pub from_j : (op rd w : ℕ) (z : ℤ) → op < 128 → form_j op rd z ≡ Some w → TypeJ w op rd z
 from_j op rd w z a e =
-    let g = given_some _ _ w e in
+    let g = cond_some _ _ w e in
     let h1 : rd < 32 = grind (arith, nat_tests, g.0) in
     let h3 : short 21 z ≡ true = grind (arith, nat_tests, g.0) in
     let h4 : twos 21 z % 2 ≡ 0 = grind (arith, nat_tests, g.0) in

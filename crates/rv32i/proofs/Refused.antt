@@ -15,12 +15,9 @@ use Rattle.rv32i.specs.Laws.{KnownOpcode, KnownFunct3, KnownFunct7, Caused, Caus
 use Rattle.rv32i.proofs.Rows.{some_not_none, major_from, named_from, named_none, decoded_at, decoded_from}
 use Rattle.rv32i.proofs.Held.{holds_decodes, decodes_holds}
 
--- a word v that decodes is known by its codes
+-- a word v that decodes is known by its opcode
 known_opcode : (w v : ℕ) (i : Instruction) → decoded v ≡ Ok i → opcode_of v ≡ opcode_of w → KnownOpcode w
 known_opcode w v i e o = (v, i, decodes_holds v i e, o)
-
-known_funct3 : (w v : ℕ) (i : Instruction) → decoded v ≡ Ok i → opcode_of v ≡ opcode_of w → funct3_of v ≡ funct3_of w → KnownFunct3 w
-known_funct3 w v i e o f = (v, i, decodes_holds v i e, o, f)
 
 -- what a word that holds an instruction decodes to, under the opcode of its group
 held_as : (m : Major) (v : ℕ) (i : Instruction) → opcode_of v ≡ major7 m → Holds v i → decoded_as m v ≡ Ok i
@@ -112,7 +109,7 @@ caused_op w c o e =
     subst (Caused w) n.1 (λ s. absurd (omega (arith, o, s)), sampled w 0x33 (sample_op (funct3_of w) f) o, unnamed_op w o n.0)
 
 op_imm_none : (o : Option ImmOp) (w : ℕ) (c : Cause) → op_imm_by o w ≡ Err c → (o ≡ None) × (shift_at (funct3_of w) (funct7_of w) ≡ None) × (Funct7 ≡ c)
-op_imm_none (Some k) w c e = let z : ◌≡◌ {A = ℕ} 0 1 = cc in absurd (omega arith)
+op_imm_none (Some k) w c e = absurd (grind arith)
 op_imm_none None w c e = let n = named_none Funct7 c (shift_at (funct3_of w) (funct7_of w)) _ e in (refl, n.0, n.1)
 
 unnamed_op_imm : (w : ℕ) → opcode_of w ≡ 0x13 → imm_at (funct3_of w) ≡ None → shift_at (funct3_of w) (funct7_of w) ≡ None → KnownFunct7 w → ⊥
@@ -133,9 +130,9 @@ system_none : (w : ℕ) (c : Cause) → decoded_as system w ≡ Err c → (Syste
 system_none w c e = (grind (arith, nat_tests), λ h. grind (arith, nat_tests), λ h. grind (arith, nat_tests))
 
 caused_as : (m : Major) (w : ℕ) (c : Cause) → opcode_of w ≡ major7 m → decoded_as m w ≡ Err c → Caused w c
-caused_as lui w c o e = let z : ◌≡◌ {A = ℕ} 0 1 = cc in absurd (omega arith)
-caused_as auipc w c o e = let z : ◌≡◌ {A = ℕ} 0 1 = cc in absurd (omega arith)
-caused_as jal w c o e = let z : ◌≡◌ {A = ℕ} 0 1 = cc in absurd (omega arith)
+caused_as lui w c o e = absurd (grind arith)
+caused_as auipc w c o e = absurd (grind arith)
+caused_as jal w c o e = absurd (grind arith)
 caused_as jalr w c o e = caused_3 only_zero _ jalr (λ v. zero_named (eqb (funct3_of v) 0) (funct3_of v) (Jalr (rd_of v) (rs1_of v) (imm_i v))) (λ z. absurd (omega arith)) 0x00000067 _ refl refl w c o e
 caused_as branch w c o e = caused_3 branch_at _ branch (λ v. refl) (λ z. absurd (omega arith)) 0x00000063 _ refl refl w c o e
 caused_as load w c o e = caused_3 load_at _ load (λ v. refl) (λ z. absurd (omega arith)) 0x00000003 _ refl refl w c o e

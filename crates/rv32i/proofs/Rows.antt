@@ -15,7 +15,7 @@ use Rattle.rv32i.specs.Table.{Major, major7, major_at, branch3, branch_at, load3
 use Rattle.rv32i.specs.Decoded.{named, decoded_by, decoded, decoded_as}
 
 pub some_not_none : {A : Type 0} {B : Type 0} (o : Option A) (a : A) → o ≡ Some a → o ≡ None → B
-some_not_none o a p q = let z : ◌≡◌ {A = ℕ} 0 1 = cc in absurd (omega arith)
+some_not_none o a p q = absurd (grind arith)
 
 pub branch_at-branch3 : (k : BranchOp) → branch_at (branch3 k) ≡ Some k
 branch_at-branch3 k = search arith
@@ -73,11 +73,11 @@ named_at c o a make e = rw e refl
 
 pub named_from : {A : Type 0} (c : Cause) (o : Option A) (make : A → Instruction) (i : Instruction) → named c o make ≡ Ok i → (a : A) × (o ≡ Some a) × (i ≡ make a)
 named_from c (Some a) make i e = (a, refl, cc)
-named_from c None make i e = let z : ◌≡◌ {A = ℕ} 0 1 = cc in absurd (omega arith)
+named_from c None make i e = absurd (grind arith)
 
 -- a refusal by a name that is not there
 pub named_none : {A : Type 0} (c d : Cause) (o : Option A) (make : A → Instruction) → named c o make ≡ Err d → (o ≡ None) × (c ≡ d)
-named_none c d (Some a) make e = let z : ◌≡◌ {A = ℕ} 0 1 = cc in absurd (omega arith)
+named_none c d (Some a) make e = absurd (grind arith)
 named_none c d None make e = (refl, cc)
 
 pub decoded_at : (m : Major) (w : ℕ) → opcode_of w ≡ major7 m → decoded w ≡ decoded_as m w
@@ -85,7 +85,7 @@ decoded_at m w e = search (arith, nat_tests)
 
 by_from : (o : Option Major) (w : ℕ) (i : Instruction) → decoded_by o w ≡ Ok i → (m : Major) × (o ≡ Some m) × (decoded_as m w ≡ Ok i)
 by_from (Some m) w i e = (m, refl, e)
-by_from None w i e = let z : ◌≡◌ {A = ℕ} 0 1 = cc in absurd (omega arith)
+by_from None w i e = absurd (grind arith)
 
 pub decoded_from : (w : ℕ) (i : Instruction) → decoded w ≡ Ok i → (m : Major) × (opcode_of w ≡ major7 m) × (decoded_as m w ≡ Ok i)
 decoded_from w i e =

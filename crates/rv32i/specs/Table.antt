@@ -1,5 +1,6 @@
 -- The table of codes: opcode, funct3 and funct7, and the operation that has a code. Assumes nothing.
---   major7 m        the opcode of a group of instructions, which have the manual's names
+--   Major           the enum `Opcode`: the groups of instructions, by the manual's names, in small letters beside `Instruction`
+--   major7 m        the opcode of a group of instructions
 --   x3 op, x7 op    funct3 and funct7 of an operation of the group x
 --   x_at f, x_at f g  the operation of the group x that has these codes, if any
 use Rattle.std.specs.Prelude.{ℕ, Bool, cond, ◌&&◌, List, [], ◌∷◌, Some, None, Option, ◌==◌, nat_eq}

@@ -11,7 +11,7 @@ pub enum Cause {
 }
 
 impl Cause {
-    // The number by which the cause is known outside.
+    // The number by which the cause is known outside; `From<Cause> for u8` would be a second name for it.
     pub fn number(self) -> u8
         ensures is { result ≡ cause_number self }
     {

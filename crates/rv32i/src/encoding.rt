@@ -15,6 +15,7 @@ pub fn encode(instruction: Instruction) -> Option<u32>
     word_of(instruction)
 }
 
+// Apart from `encode`, so that a wrong arm fails at this clause, before the proofs of the laws.
 fn word_of(instruction: Instruction) -> Option<u32>
     ensures { result ≡ encoded instruction }
 {

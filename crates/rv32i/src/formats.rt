@@ -1,4 +1,6 @@
 // The word of each format, or `None` where a register or the immediate has no such form.
+// The parameters are the manual's fields of each format: a struct of them would be taken apart where it is made.
+// `funct3 < 8` stands in four contracts: a type for it would be made in six tables and read in four sums.
 ghost use Rattle.std.specs.Prelude.{◌≡◌, ◌<◌};
 ghost use Rattle.rv32i.specs.Encoded.{form_r, form_i, form_s, form_b, form_u, form_j};
 ghost use Rattle.rv32i.specs.Table.{major7};

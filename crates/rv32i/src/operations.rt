@@ -1,4 +1,6 @@
 // The operations that share a format, by their mnemonics, and the codes that tell them apart.
+// `from_funct3` or `from_functs`, `funct3` and `funct7` of the six types are six tables with nothing in common but
+// their form: a trait over them would hold the same tables, and no caller is generic.
 ghost use Rattle.std.specs.Prelude.{◌≡◌};
 ghost use Rattle.rv32i.specs.Table.{branch3, load3, store3, imm3, shift3, shift7, reg3, reg7};
 ghost use Rattle.rv32i.specs.Table.{branch_at, load_at, store_at, imm_at, shift_at, reg_at};

@@ -1,4 +1,5 @@
 // Instructions as text: the GNU assembler's form, without aliases and with numbered registers.
+// `Display` and `FromStr` of the operations are a table and its inverse for each of the six types, which share no name.
 ghost use Rattle.std.specs.Prelude.{◌≡◌, Some, codes, decimal};
 ghost use Rattle.rv32i.specs.Causes.{cause_number};
 ghost use Rattle.rv32i.specs.Text.{branch_name, load_name, store_name, imm_name, shift_name, reg_name, ReadsName, upper, text_of};
