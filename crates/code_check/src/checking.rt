@@ -30,7 +30,7 @@ fn check_word(word: u32, site: Site) -> Result<(), Refusal>
     }
 }
 
-// Past the window stands 0, which is not RV32I.
+// The word at `place`; past the window stands 0, which is not RV32I.
 fn word_at(window: &[u32], place: usize) -> u32
     ensures { result ≡ slice_index window.now place }
 {

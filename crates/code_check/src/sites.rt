@@ -9,7 +9,8 @@ pub(crate) struct Site {
     // So many words has the window.
     pub(crate) words: usize,
     pub(crate) place: usize,
-    // The word after it, or 0, which is not RV32I, where there is none.
+    // The word after it, or 0, which is not RV32I, where there is none: the rules speak of what it decodes to, so that an
+    // `Option` would be no plainer.
     pub(crate) next: u32,
     ghost inside: { place < words },
     ghost few: { words ≤ 4096 },

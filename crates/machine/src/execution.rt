@@ -77,6 +77,7 @@ pub fn execute(instruction: Instruction, registers: &[u32; 32], pc: u32) -> Effe
     effect_of(instruction, registers, pc)
 }
 
+// Apart from `execute`, which has a law: so a wrong effect is refused here, where it is made.
 fn effect_of(instruction: Instruction, registers: &[u32; 32], pc: u32) -> Effect
     ensures { result ≡ executed instruction registers.now pc }
 {

@@ -1,8 +1,8 @@
-use Rattle.std.proofs.Common.{◌≡◌, ℕ, ◌+◌, List, length, get_or, Ok, Err, sym, ap, ◌∙◌, subst, arith}
+use Rattle.std.proofs.Common.{◌≡◌, ℕ, ◌+◌, List, length, get_or, Ok, Err, sym, ap, ◌∙◌}
 use Rattle.std.proofs.lemmas.Result.{err_from_is_err_and}
 use Rattle.rv32i.specs.Decoded.{decoded}
 use Rattle.refusal.specs.Told.{told}
-use Rattle.code_check.specs.Verdicts.{Verdict, passed, passed_at, in_turn}
+use Rattle.code_check.specs.Verdicts.{Verdict, passed, passed_at}
 use Rattle.code_check.proofs.Scan.{one_more, stops_at}
 use Rattle.code_check.proofs.checking.check_words.Goals as goal
 
