@@ -1,4 +1,4 @@
-// The program: a script in, a line an answer out.
+// The program over a yard: a script in, a line an answer out. It stands beside `zarguilo`, whose answers stay as they are.
 #![tactic(auto)]
 
 use anyhow::bail;

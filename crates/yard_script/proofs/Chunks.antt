@@ -1,5 +1,5 @@
 -- The words of bytes are the numbers of their chunks.
-use Rattle.std.proofs.Common.{◌≡◌, ℕ, ◌+◌, ◌*◌, ◌≤◌, ◌<◌, zero, suc, List, ◌∷◌, map, length, take, drop, get_or, refl, ap₂, ap, ◌∙◌, arith, w32}
+use Rattle.std.proofs.Common.{◌≡◌, ℕ, ◌+◌, ◌*◌, ◌<◌, zero, suc, List, ◌∷◌, map, take, drop, get_or, refl, ap₂, ap, ◌∙◌, arith, w32}
 use Rattle.std.proofs.lemmas.List.{get_or-take, get_or-drop, drop-drop}
 use Rattle.std.specs.Int.{from_le_bytes}
 use Rattle.std.specs.List.{range_with_len}
