@@ -4,6 +4,7 @@ use lib.Bits.{bit_and, bit_or}
 use Rattle.std.proofs.lemmas.List.{length-take-le, length-drop, get_or-take, get_or-drop}
 use Rattle.std.proofs.lemmas.Bool.{cases_Bool, and_parts, leb-true, eqb-true}
 use Rattle.code_check.specs.Windows.{counted, bits_fit, placed, words_from, windowed, Framed, code_mask_of, WordOf, Confines}
+use Rattle.code_check.proofs.Scan.{err_ok}
 use Rattle.segment.proofs.Blocks.{masked_code}
 
 quarter : (m : ℕ) → 6 ≤ m → 4 * (2 ^ m / 4) ≡ 2 ^ m
@@ -42,9 +43,9 @@ module _ (s : List ℕ) (b m : ℕ) where
       ⊎_elim
       (λ (x : bits_fit m ≡ true). ⊎_elim
       (λ (y : placed s b m ≡ true). let same : words_from s b m ≡ ws = let h : windowed s b m ≡ Ok (words_from s b m) = rw (x, y) refl in cc in subst (Framed s b m) same (frame x y))
-      (λ (y : placed s b m ≡ false). let h = rw (x, y) at e in let z : ◌≡◌ {A = ℕ} 0 1 = cc in absurd (omega arith))
+      (λ (y : placed s b m ≡ false). let h = rw (x, y) at e in absurd (err_ok _ _ h))
       (cases_Bool (placed s b m)))
-      (λ (x : bits_fit m ≡ false). let h = rw x at e in let z : ◌≡◌ {A = ℕ} 0 1 = cc in absurd (omega arith))
+      (λ (x : bits_fit m ≡ false). let h = rw x at e in absurd (err_ok _ _ h))
       (cases_Bool (bits_fit m))
 
 pub confines : (m k : ℕ) → code_mask_of m ≡ Ok k → Confines m k
@@ -54,5 +55,5 @@ confines m k e b x aligned =
     let low = least_bits m f in
     let same : 2 ^ m - 4 ≡ k = let h : code_mask_of m ≡ Ok (2 ^ m - 4) = rw f refl in cc in
     subst (λ n. WordOf b m (bit_or (bit_and x n) b)) same (masked_code b m x (omega arith) aligned))
-    (λ (f : bits_fit m ≡ false). let h = rw f at e in let z : ◌≡◌ {A = ℕ} 0 1 = cc in absurd (omega arith))
+    (λ (f : bits_fit m ≡ false). let h = rw f at e in absurd (err_ok _ _ h))
     (cases_Bool (bits_fit m))

@@ -9,7 +9,7 @@ use Rattle.code_check.specs.Rules.{breaks, rules, word_at}
 use Rattle.code_check.specs.Windows.{windowed}
 use Rattle.code_check.specs.Verdicts.{Verdict, broken_at, reported, passed_at, and_then, verdict, checked}
 use Rattle.code_check.specs.Laws.{Clean, Accepted, First, Lawful, Judged}
-use Rattle.code_check.proofs.Scan.{ok_below, below_ok, stops_at, stopped_at, none_breaks, breaks_none, some_breaks, breaks_some}
+use Rattle.code_check.proofs.Scan.{err_ok, ok_below, below_ok, stops_at, stopped_at, none_breaks, breaks_none, some_breaks, breaks_some}
 
 -- a rule is known by its number
 rule_of : ℕ → Option Rule
@@ -30,10 +30,10 @@ same_rule r s e = let h : Some r ≡ Some s = sym (rule_of-rule_number r) ∙ ap
 
 reported_ok : (p : ℕ) (d : Decoding) (o : Option Rule) → reported p d o ≡ Ok tt → o ≡ None
 reported_ok p d None e = refl
-reported_ok p d (Some r) e = let z : ◌≡◌ {A = ℕ} 0 1 = cc in absurd (omega arith)
+reported_ok p d (Some r) e = absurd (err_ok _ tt e)
 
 reported_err : (p q : ℕ) (d f : Decoding) (o : Option Rule) (r : Rule) → reported p d o ≡ Err (broken_at q f r) → (p ≡ q) × (o ≡ Some r)
-reported_err p q d f None r e = let z : ◌≡◌ {A = ℕ} 0 1 = cc in absurd (omega arith)
+reported_err p q d f None r e = absurd (err_ok _ tt (sym e))
 reported_err p q d f (Some s) r e = (cc, ap (λ x. Some x) (same_rule s r (cc)))
 
 module _ (ws : List ℕ) where

@@ -1,6 +1,7 @@
 -- A word breaks a rule exactly where it does not keep it.
 use Rattle.std.proofs.Common.{◌≡◌, ℕ, suc, ◌+◌, ◌-◌, ◌*◌, ◌/◌, ◌%◌, ◌<◌, ◌≤◌, Bool, true, false, not, ◌&&◌, ◌||◌, eqb, ltb, leb, List, length, ℤ, pos, negsuc, ◌+ℤ◌, is_some as option_is_some, Some, None, Ok, Err, Option, Result, sym, refl, ap, ◌∙◌, subst, inl, inr, ⊎_elim, arith}
 use Rattle.std.proofs.lemmas.List.{get_or_past}
+use Rattle.std.proofs.lemmas.Option.{none-some}
 use Rattle.std.proofs.lemmas.Int.{ints}
 use Rattle.std.proofs.lemmas.Bool.Decides.{nat_tests}
 use Rattle.std.proofs.lemmas.Bool.{cases_lt, and_parts, and_cases, eqb-true, leb-true, ltb-true, eq-eqb, le-leb, lt-ltb, not-true, not-false, both_ways, and_from, or_parts, or_cases}
@@ -10,7 +11,6 @@ use Rattle.rv32i.specs.declared.operations.RegOp.TheVariants.{Add, Sub, Sll, Slt
 use Rattle.rv32i.specs.declared.instructions.Instruction.{Instruction}
 use Rattle.rv32i.specs.declared.instructions.Instruction.TheVariants.{Lui, Auipc, Jal, Jalr, Branch, Load, Store, OpImm, ShiftImm, Op, Fence, Ecall, Ebreak}
 use Rattle.rv32i.specs.Table.{first}
-use Rattle.rv32i.specs.declared.causes.Cause.{Cause}
 use Rattle.rv32i.specs.declared.causes.Cause.TheVariants.{Opcode}
 use Rattle.rv32i.specs.Decoded.{Decoding, decoded}
 use Rattle.refusal.specs.declared.rules.Rule.{Rule}
@@ -23,11 +23,12 @@ use Rattle.code_check.specs.Rules.{lands, is_zero, breaks_at, breaks, word_at}
 use Rattle.code_check.specs.Windows.{windowed}
 use Rattle.code_check.specs.Verdicts.{Verdict, and_then, verdict, checked}
 use Rattle.code_check.specs.Laws.{MaskWord, BaseWord, KeepsAt, Keeps, Meant, Gives}
+use Rattle.code_check.proofs.Scan.{err_ok}
 use Rattle.code_check.proofs.Framing.{framed}
 use Rattle.code_check.proofs.Lawfully.{checked_at, verdict_accepted}
 
 nothing : {A : Type 0} {B : Type 0} (x : A) → None ≡ Some x → B
-nothing x e = let z : ◌≡◌ {A = ℕ} 0 1 = cc in absurd (omega arith)
+nothing x e = absurd (none-some x e)
 
 any_false : {A : Type 0} (f : A → Bool) (o : Option A) (x : A) → o ≡ Some x → any f o ≡ false → f x ≡ false
 any_false f o x e h = sym (ap (any f) e) ∙ h
@@ -207,7 +208,7 @@ module _ (n p : ℕ) (lt : p < n) (next : Decoding) where
 
   breaks_not : (r : Rule) (d : Decoding) → breaks_at r n p next d ≡ true → KeepsAt r n p next d → ⊥
   breaks_not Decodes (Ok i) h k = both_ways false refl h
-  breaks_not Decodes (Err c) h k = let e = k.1 in let z : ◌≡◌ {A = ℕ} 0 1 = cc in omega arith
+  breaks_not Decodes (Err c) h k = err_ok c k.0 k.1
   breaks_not StoreBase (Ok i) h k =
       let a = any_true (λ r. not (eqb r 27)) (store_base i) h in
       let s = store_is i a.0 a.1 in
@@ -252,19 +253,16 @@ kept ws r p lt h = keeps (length ws) p lt (word_at ws (p + 1)) r (word_at ws p) 
 pub broken : (ws : List ℕ) (r : Rule) (p : ℕ) → p < length ws → breaks r ws p ≡ true → Keeps r ws p → ⊥
 broken ws r p lt h = breaks_not (length ws) p lt (word_at ws (p + 1)) r (word_at ws p) h
 
-no_instruction : (i : Instruction) (c : Cause) → Err c ≡ Ok i → ⊥
-no_instruction i c e = let z : ◌≡◌ {A = ℕ} 0 1 = cc in omega arith
-
 ends : (ws : List ℕ) (p : ℕ) (i : Instruction) → word_at ws p ≡ Ok i → p < length ws
 ends ws p i e =
-    ⊎_elim (λ l. l) (λ (g : length ws ≤ p). absurd (no_instruction i Opcode (sym (ap decoded (get_or_past ws p 0 g)) ∙ e))) (cases_lt p (length ws))
+    ⊎_elim (λ l. l) (λ (g : length ws ≤ p). absurd (err_ok Opcode i (sym (ap decoded (get_or_past ws p 0 g)) ∙ e))) (cases_lt p (length ws))
 
 pub meant : (ws : List ℕ) → Meant ws
 meant ws = record { kept = kept ws; broken = broken ws; ends = ends ws }
 
 has_window : (o : Result (List ℕ) (List ℕ)) → and_then o verdict ≡ Ok tt → (ws : List ℕ) × (o ≡ Ok ws)
 has_window (Ok ws) e = (ws, refl)
-has_window (Err a) e = let z : ◌≡◌ {A = ℕ} 0 1 = cc in absurd (omega arith)
+has_window (Err a) e = absurd (err_ok a tt e)
 
 pub gives : (s : List ℕ) (b m : ℕ) (v : Verdict) → v ≡ checked s b m → Gives s b m v
 gives s b m v e o =

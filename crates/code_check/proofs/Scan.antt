@@ -1,5 +1,5 @@
 -- The first refusal in turn, and the lowest of the rules.
-use Rattle.std.proofs.Common.{◌≡◌, ℕ, zero, suc, ◌+◌, ◌<◌, ◌≤◌, Bool, true, false, ◌⊎◌, List, Some, None, Ok, Err, refl, subst, inl, inr, ⊎_elim, add-one, arith}
+use Rattle.std.proofs.Common.{◌≡◌, ℕ, zero, suc, ◌+◌, ◌<◌, ◌≤◌, Bool, true, false, ◌⊎◌, List, Some, None, Ok, Err, Result, sym, refl, subst, inl, inr, ⊎_elim, add-one, arith}
 use Rattle.std.proofs.lemmas.Bool.Decides.{nat_tests}
 use Rattle.std.proofs.lemmas.Bool.{cases_lt}
 use Rattle.rv32i.specs.Table.{first}
@@ -9,9 +9,12 @@ use Rattle.refusal.specs.Told.{rule_number}
 use Rattle.code_check.specs.Rules.{rules}
 use Rattle.code_check.specs.Verdicts.{Verdict, and_then, in_turn}
 
+pub err_ok : {A E : Type 0} (e : E) (x : A) → ◌≡◌ {A = Result A E} (Err e) (Ok x) → ⊥
+err_ok e x h = let z : ◌≡◌ {A = ℕ} 0 1 = cc in omega arith
+
 then_ok : (o q : Verdict) → and_then o (λ _. q) ≡ Ok tt → (o ≡ Ok tt) × (q ≡ Ok tt)
 then_ok (Ok x) q e = (refl, e)
-then_ok (Err a) q e = let z : ◌≡◌ {A = ℕ} 0 1 = cc in absurd (omega arith)
+then_ok (Err a) q e = absurd (err_ok a tt e)
 
 then_err : (o q : Verdict) (a : List ℕ) → and_then o (λ _. q) ≡ Err a → (o ≡ Err a) ⊎ ((o ≡ Ok tt) × (q ≡ Err a))
 then_err (Ok x) q a e = inr (refl, e)
@@ -38,7 +41,7 @@ module _ (f : ℕ → Verdict) where
       (λ (ge : n ≤ i). let same : i ≡ n = omega arith in let here : in_turn f n ≡ Ok tt = subst (λ k. in_turn f k ≡ Ok tt) same e in rw here (subst (λ k. f k ≡ Err a) same h)) (cases_lt i n)
 
   pub stopped_at : (n : ℕ) (a : List ℕ) → in_turn f n ≡ Err a → (p : ℕ) × (p < n) × (f p ≡ Err a) × ((q : ℕ) → q < p → f q ≡ Ok tt)
-  stopped_at zero a e = let z : ◌≡◌ {A = ℕ} 0 1 = cc in absurd (omega arith)
+  stopped_at zero a e = absurd (err_ok a tt (sym e))
   stopped_at (suc n) a e =
       ⊎_elim (λ (h : in_turn f n ≡ Err a). let t = stopped_at n a h in (t.0, omega arith, t.2, t.3))
       (λ (h : (in_turn f n ≡ Ok tt) × (f n ≡ Err a)). (n, omega arith, h.1, ok_below n h.0))
