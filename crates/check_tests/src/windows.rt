@@ -16,6 +16,7 @@ pub(crate) const GOOD: [u32; 16] = [
 ];
 
 // The number of the refusal and its values, with 0 for those that are not there; all 0 where the window is accepted.
+// Numbers, since they are what is told outside.
 pub(crate) fn told(store: &[u32], base: u32, m: u32) -> (u8, usize, usize, usize) {
     let Err(refusal) = check(store, base, m) else {
         return (0, 0, 0, 0);
