@@ -121,7 +121,7 @@ mod tests {
     fn flat(rt: HostRuntime) -> Result<(), Fail> {
         let mut buffers = Buffers::flat(rt.alloc(), 3)?;
         let bytes = buffers.peek(rt.alloc(), 1, 3)?;
-        assert_eq!(rt; bytes.as_slice(), [Some(0), Some(0), None]);
+        assert_eq!(rt; bytes.as_slice(), [Some(0), Some(0), None].as_slice());
         Ok(())
     }
 
@@ -130,7 +130,7 @@ mod tests {
     fn lanes(rt: HostRuntime) -> Result<(), Fail> {
         let mut buffers = Buffers::lanes(rt.alloc(), [2, 1, 3, 2])?;
         let bytes = buffers.peek(rt.alloc(), 3, 2)?;
-        assert_eq!(rt; bytes.as_slice(), [Some(0), None]);
+        assert_eq!(rt; bytes.as_slice(), [Some(0), None].as_slice());
         Ok(())
     }
 
@@ -138,7 +138,7 @@ mod tests {
     fn limit(rt: HostRuntime) -> Result<(), Fail> {
         let mut buffers = Buffers::flat(rt.alloc(), 0xffff_ffff)?;
         let bytes = buffers.peek(rt.alloc(), 1_048_575, 2)?;
-        assert_eq!(rt; bytes.as_slice(), [Some(0), None]);
+        assert_eq!(rt; bytes.as_slice(), [Some(0), None].as_slice());
         Ok(())
     }
 }

@@ -16,9 +16,9 @@ use Rattle.yard_steps.specs.declared.reports.Reason.{Reason}
 use Rattle.yard_steps.specs.declared.reports.Reason.TheVariants.{Host, Stopped, Finished, Spent}
 use Rattle.yard_steps.specs.declared.reports.Report.{Report}
 use Rattle.yard_steps.specs.States.{is_idle, is_stopped}
-use Rattle.yard_steps.specs.Model.{Domain, Entry, Yard, at, current, gate_at, mapped, some_active}
+use Rattle.yard_steps.specs.Model.{Entry, Yard, at, current, gate_at, mapped, some_active}
 use Rattle.yard_steps.specs.Steps.{After, Ran, told, went, rest, halted, hosted, returned_to, gated, called, done, performed, fetched, stepped, on, ran}
-use Rattle.yard_steps.specs.Calls.{Running, run_refused, or_refused, running, refusing, settled, admission, admitted, gate_fits, offset_fits, opened, through_gate, called_from, cut_off}
+use Rattle.yard_steps.specs.Calls.{Running, run_refused, or_refused, running, refusing, gate_fits, offset_fits, opened, through_gate, called_from, cut_off}
 use Rattle.yard.specs.declared.pendings.Outcome.{Outcome}
 use Rattle.yard.specs.declared.pendings.Outcome.TheVariants.{Ended, Asked}
 use Rattle.yard.specs.Yards.{answered_by, Tokened}
@@ -144,10 +144,6 @@ run_held A k y z bs cs (Err x) e _ = sym (answered_settles A k y z bs cs (Err x)
 abbrev Waits : {T : Type 0} → Bool → Yard × Result T (List ℕ) → Type 0
 Waits b x = x.0.pending ≡ b
 
-settled_same : (y : Yard) (r : Result Domain (List ℕ)) → Waits y.pending (settled y r)
-settled_same y (Ok d) = refl
-settled_same y (Err e) = refl
-
 refusing_same : {T : Type 0} (b : Bool) (r : Refusal) (y : Yard) (x : Yard × Result T (List ℕ)) → (b ≡ false → Waits y.pending x) → Waits y.pending (refusing b r y x)
 refusing_same true r y x h = refl
 refusing_same false r y x h = h refl
@@ -161,9 +157,6 @@ through_same (Some e) vs y =
 module _ (b : Bool) (y z : Yard) (held : b ≡ y.pending) where
   same : {T : Type 0} (r : Result T (List ℕ)) (x : Yard × Result T (List ℕ)) → (z, r) ≡ x → Waits y.pending x → b ≡ z.pending
   same r x e h = held ∙ sym (ap (λ p. p.0.pending) e ∙ h)
-
-  pub admitted_held : (xs : List ℕ) (w m d k : ℕ) (r : Result ℕ (List ℕ)) → (z, r) ≡ admitted y xs w m d k → b ≡ z.pending
-  admitted_held xs w m d k r e = same r _ e (settled_same y (admission y xs w m d k))
 
   pub opened_held : (g d o : ℕ) (r : Result (Unit {0}) (List ℕ)) → (z, r) ≡ opened y g d o → b ≡ z.pending
   opened_held g d o r e =

@@ -1,32 +1,20 @@
 -- One command more.
-use Rattle.std.proofs.Common.{◌≡◌, ℕ, ◌+◌, ◌-◌, ◌<◌, ◌≤◌, true, List, [], ◌∷◌, ◌++◌, length, get_or, take, drop, Some, Option, sym, ap, ◌∙◌, append_assoc, add-one, arith, drop-cons}
-use Rattle.std.proofs.lemmas.List.{map-append, drop_all}
+use Rattle.std.proofs.Common.{◌≡◌, ℕ, ◌+◌, ◌-◌, ◌<◌, ◌≤◌, true, List, [], ◌∷◌, ◌++◌, length, get_or, take, drop, Some, Option, sym, ap, ◌∙◌, add-one, arith, drop-cons}
+use Rattle.std.proofs.lemmas.List.{drop_all}
 use Rattle.std.proofs.lemmas.Slice.{between_to_end}
-use Rattle.std.specs.Option.{option_map, option_to_list}
-use Rattle.buffers.specs.declared.Buffers.{Buffers}
 use Rattle.std.specs.Borrow.{Bor}
+use Rattle.buffers.specs.declared.Buffers.{Buffers}
 use Rattle.policy.specs.declared.any.AnyPolicy.{AnyPolicy}
 use Rattle.yard_steps.specs.Model.{new_yard}
 use Rattle.yard_script.specs.declared.commands.Command.{Command}
 use Rattle.yard_script.specs.declared.commands.Command.TheVariants as cmd
-use Rattle.session.specs.declared.answers.Answer.{Answer}
-use Rattle.session.specs.Said.{Said, plain}
-use Rattle.session.specs.Performed.{State, under_yard, performed, answers_of}
-use Rattle.session.specs.Views.{state_of, spoken, following}
-
-pub said_more : (s z : State) (o : Option Said) (c : Command) (ts us : List Said) → (z, o) ≡ performed c s → us ≡ ts ++ option_to_list o → (cs : List Command) →
-    us ++ answers_of z cs ≡ ts ++ answers_of s (c ∷ cs)
-said_more s z o c ts us e h cs =
-    ap (λ l. l ++ answers_of z cs) h
-    ∙ append_assoc ts (option_to_list o) (answers_of z cs)
-    ∙ ap (λ (x : State × Option Said). ts ++ (option_to_list x.1 ++ answers_of x.0 cs)) e
+use Rattle.session.specs.Said.{Said}
+use Rattle.session.specs.Performed.{State, under_yard, answers_of}
+use Rattle.session.specs.Views.{state_of, following}
 
 -- the command at a place stands before those after it
-pub next_command : (cs : List Command) (i : ℕ) (c : Command) → i < length cs → c ≡ get_or cs i c → c ∷ drop (i + 1) cs ≡ drop i cs
+next_command : (cs : List Command) (i : ℕ) (c : Command) → i < length cs → c ≡ get_or cs i c → c ∷ drop (i + 1) cs ≡ drop i cs
 next_command cs i c h e = ap (λ x. x ∷ drop (i + 1) cs) e ∙ sym (drop-cons cs i c h ∙ ap (λ n. get_or cs i c ∷ drop n cs) (sym (add-one i)))
-
-pub spoken_noted : (xs ys : List Answer) (a : Answer) (o : Option Answer) → ys ≡ xs ++ a ∷ [] → o ≡ Some a → spoken ys ≡ spoken xs ++ option_to_list (option_map plain o)
-spoken_noted xs ys a o e h = ap spoken e ∙ map-append plain xs (a ∷ []) ∙ ap (λ x. spoken xs ++ option_to_list (option_map plain x)) (sym h)
 
 pub yard_more : (s z : State) (c : Command) (n : ℕ) (ts : List Said) → c ≡ cmd.Yard n → z ≡ under_yard s n → (cs : List Command) → ts ++ answers_of z cs ≡ ts ++ answers_of s (c ∷ cs)
 yard_more s z c n ts h e cs = ap (λ x. ts ++ answers_of x cs) e ∙ ap (λ x. ts ++ answers_of s (x ∷ cs)) (sym h)

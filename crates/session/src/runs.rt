@@ -28,6 +28,7 @@ pub(crate) fn run(
     }
 }
 
+// This and the next stand apart, since of a `Vec` that `run` itself lends to a memory the check loses what it holds afterwards.
 fn run_flat(
     buffer: &mut [u8],
     yard: &mut Yard,

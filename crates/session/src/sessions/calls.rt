@@ -147,6 +147,7 @@ impl<'a> Session<'a> {
                 let result = self.yard.register(*domain as usize, *number);
                 Ok(Some(Answer::Register(result)))
             }
+            // Whoever has the code store does these.
             Command::Code(_) | Command::Yard(_) => unreachable(),
         }
     }
