@@ -1,8 +1,8 @@
--- Where a yard waits for the host: after a run exactly where the run asked it, and otherwise until the reply.
-use Rattle.std.proofs.Common.{◌≡◌, ℕ, zero, suc, ◌+◌, Bool, true, false, cond, not, eqb, ltb, leb, List, [], ◌∷◌, length, is_some, Some, None, Ok, Err, Option, Result, sym, refl, ap, ◌∙◌, subst, arith}
+-- Where a yard waits for the host after a run: exactly where the run asked it.
+use Rattle.std.proofs.Common.{◌≡◌, ℕ, zero, suc, ◌+◌, Bool, true, false, cond, eqb, ltb, List, [], ◌∷◌, length, Some, None, Ok, Err, Option, Result, sym, refl, ap, ◌∙◌, subst, arith}
 use Rattle.std.proofs.lemmas.Bool.{cond_both}
 use Rattle.refusal.specs.declared.refusals.Refusal.{Refusal}
-use Rattle.refusal.specs.declared.refusals.Refusal.TheVariants.{NoGate as NoSuchGate, GateTaken, NoDomain, EntryOffset, HostPending, DomainActive, DomainStopped, NoneActive, MemorySize}
+use Rattle.refusal.specs.declared.refusals.Refusal.TheVariants.{HostPending, NoneActive, MemorySize}
 use Rattle.rv32i.specs.declared.instructions.Instruction.{Instruction}
 use Rattle.machine.specs.declared.stops.Stop.{Stop}
 use Rattle.machine.specs.declared.stops.Stop.TheVariants.{Unmapped, NoGate, Forbidden, Busy}
@@ -15,10 +15,10 @@ use Rattle.yard_steps.specs.declared.reports.Ending.{Ending}
 use Rattle.yard_steps.specs.declared.reports.Reason.{Reason}
 use Rattle.yard_steps.specs.declared.reports.Reason.TheVariants.{Host, Stopped, Finished, Spent}
 use Rattle.yard_steps.specs.declared.reports.Report.{Report}
-use Rattle.yard_steps.specs.States.{is_idle, is_stopped}
+use Rattle.yard_steps.specs.States.{is_idle}
 use Rattle.yard_steps.specs.Model.{Entry, Yard, at, current, gate_at, mapped, some_active}
 use Rattle.yard_steps.specs.Steps.{After, Ran, told, went, rest, halted, hosted, returned_to, gated, called, done, performed, fetched, stepped, on, ran}
-use Rattle.yard_steps.specs.Calls.{Running, run_refused, or_refused, running, refusing, gate_fits, offset_fits, opened, through_gate, called_from, cut_off}
+use Rattle.yard_steps.specs.Calls.{Running, run_refused, or_refused, running}
 use Rattle.yard.specs.declared.pendings.Outcome.{Outcome}
 use Rattle.yard.specs.declared.pendings.Outcome.TheVariants.{Ended, Asked}
 use Rattle.yard.specs.Yards.{answered_by, Tokened}
@@ -138,35 +138,3 @@ pub run_held : (A : ℕ → ℕ → Bool) (k : ℕ) (y z : Yard) (bs cs : List �
 run_held A k y z bs cs (Ok (Ended r)) e n = let t = answered_settles A k y z bs cs (Ok (Ended r)) e in t.0 ∙ sym (t.1 ∙ not_host r.reason n)
 run_held A k y z bs cs (Ok (Asked r q)) e h = let t = answered_settles A k y z bs cs (Ok (Asked r q)) e in sym (t.1 ∙ ap is_host h)
 run_held A k y z bs cs (Err x) e _ = sym (answered_settles A k y z bs cs (Err x) e)
-
--- no other call but a reply changes whether the yard waits
-
-abbrev Waits : {T : Type 0} → Bool → Yard × Result T (List ℕ) → Type 0
-Waits b x = x.0.pending ≡ b
-
-refusing_same : {T : Type 0} (b : Bool) (r : Refusal) (y : Yard) (x : Yard × Result T (List ℕ)) → (b ≡ false → Waits y.pending x) → Waits y.pending (refusing b r y x)
-refusing_same true r y x h = refl
-refusing_same false r y x h = h refl
-
-through_same : (o : Option Entry) (vs : List ℕ) (y : Yard) → Waits y.pending (through_gate o vs y)
-through_same None vs y = refl
-through_same (Some e) vs y =
-    refusing_same y.pending HostPending y _
-    (λ calm. refusing_same (some_active y) DomainActive y _ (λ _. refusing_same (is_stopped (at y e.domain).state) DomainStopped y _ (λ _. sym calm)))
-
-module _ (b : Bool) (y z : Yard) (held : b ≡ y.pending) where
-  same : {T : Type 0} (r : Result T (List ℕ)) (x : Yard × Result T (List ℕ)) → (z, r) ≡ x → Waits y.pending x → b ≡ z.pending
-  same r x e h = held ∙ sym (ap (λ p. p.0.pending) e ∙ h)
-
-  pub opened_held : (g d o : ℕ) (r : Result (Unit {0}) (List ℕ)) → (z, r) ≡ opened y g d o → b ≡ z.pending
-  opened_held g d o r e =
-      same r _ e
-      (refusing_same (not (gate_fits g)) NoSuchGate y _
-      (λ _. refusing_same (is_some (gate_at y g)) GateTaken y _
-      (λ _. refusing_same (leb y.count d) NoDomain y _ (λ _. refusing_same (not (offset_fits (at y d) o)) EntryOffset y _ (λ _. refl)))))
-
-  pub called_held : (g : ℕ) (vs : List ℕ) (r : Result (Unit {0}) (List ℕ)) → (z, r) ≡ called_from y g vs → b ≡ z.pending
-  called_held g vs r e = same r _ e (refusing_same (not (gate_fits g)) NoSuchGate y _ (λ _. through_same (gate_at y g) vs y))
-
-  pub cut_held : (r : Result (Unit {0}) (List ℕ)) → (z, r) ≡ cut_off y → b ≡ z.pending
-  cut_held r e = same r _ e (refusing_same y.pending HostPending y _ (λ calm. refusing_same (not (some_active y)) NoneActive y _ (λ _. sym calm)))

@@ -1,6 +1,5 @@
 -- One command more.
-use Rattle.std.proofs.Common.{◌≡◌, ℕ, ◌+◌, ◌-◌, ◌<◌, ◌≤◌, true, List, [], ◌∷◌, ◌++◌, length, get_or, take, drop, Some, Option, sym, ap, ◌∙◌, add-one, arith, drop-cons}
-use Rattle.std.proofs.lemmas.List.{drop_all}
+use Rattle.std.proofs.Common.{◌≡◌, ℕ, ◌+◌, ◌-◌, ◌<◌, true, List, ◌∷◌, ◌++◌, length, get_or, take, drop, Some, Option, sym, ap, ◌∙◌, add-one, arith, drop-cons}
 use Rattle.std.proofs.lemmas.Slice.{between_to_end}
 use Rattle.std.specs.Borrow.{Bor}
 use Rattle.buffers.specs.declared.Buffers.{Buffers}
@@ -28,10 +27,6 @@ then_under o n rest memory policy code ts us all e h g = h ∙ (ap (λ x. ts ++ 
 pub loop_more : (cs : List Command) (i : ℕ) (c : Command) (f g : List Command → List Said) (all : List Said) → i < length cs → c ≡ get_or cs i c →
     ((ds : List Command) → g ds ≡ f (c ∷ ds)) → f (drop i cs) ≡ all → g (drop (i + 1) cs) ≡ all
 loop_more cs i c f g all h is e inv = e (drop (i + 1) cs) ∙ (ap f (next_command cs i c h is) ∙ inv)
-
--- all of them were
-pub loop_end : (cs : List Command) (i : ℕ) (s : State) (ts all : List Said) → length cs ≤ i → ts ++ answers_of s (drop i cs) ≡ all → ts ++ [] ≡ all
-loop_end cs i s ts all h inv = ap (λ l. ts ++ answers_of s l) (sym (drop_all i cs h)) ∙ inv
 
 -- the slice from a place on
 pub from_place : (cs : List Command) (i : ℕ) → take (length cs - i) (drop i cs) ≡ drop i cs
