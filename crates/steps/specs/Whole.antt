@@ -1,10 +1,8 @@
 -- What holds of a yard between two words. Assumes nothing.
---   wordsOf y c      the words of the window of the domain c
---   domainOf y c     the domain c as its window and its segment
+--   placed y c       the domain c as its window and its segment
 --   Whole y          the windows were accepted and the segments are sound, apart and inside the memory; every domain is confined;
---                    one that is idle has its pointers in their blocks; the chain is of its domains, none idle
---                    and none twice; the entries of gates lie in
---                    their windows
+--                    one that is idle has its pointers in their blocks; the chain is of its domains, none idle and none twice; the
+--                    entries of gates lie in their windows
 use Rattle.std.specs.Prelude.{◌≡◌, ℕ, ◌<◌, ◌≤◌, true, length, Some, ◌≢◌, slice_index}
 use Rattle.segment.specs.Guards.{apart, end}
 use Rattle.code_check.specs.Windows.{words_from, Framed}

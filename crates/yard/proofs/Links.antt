@@ -1,7 +1,7 @@
 -- A chain as a list, the current domain first.
-use Rattle.std.proofs.Common.{◌≡◌, ℕ, suc, zero, ◌+◌, ◌-◌, ◌<◌, List, [], ◌∷◌, ◌++◌, map, reverse, length, get_or, take, Some, None, Option, sym, refl, ap, ◌∙◌, arith}
+use Rattle.std.proofs.Common.{◌≡◌, ℕ, ◌+◌, ◌-◌, ◌<◌, List, [], ◌∷◌, ◌++◌, map, reverse, length, get_or, take, Some, None, Option, sym, refl, ap, ◌∙◌, arith}
 use Rattle.std.proofs.lemmas.List.{map-append, take_all, take_more, reverse-append}
-use Rattle.std.specs.Prelude.{slice_get, slice_index, option_map}
+use Rattle.std.specs.Prelude.{slice_index, option_map}
 use Rattle.std.specs.Option.{UnwrapsOrElse}
 use Rattle.yard_steps.specs.Steps.{rest}
 use Rattle.yard.specs.declared.slots.Slot.{Slot}
@@ -21,17 +21,6 @@ last_first ss s some =
 pub without_last : (ss : List Slot) → callers (take (length ss - 1) ss) ≡ rest (callers ss)
 without_last [] = refl
 without_last (s ∷ ss) = sym (ap rest (last_first (s ∷ ss) s (omega arith)))
-
-got : (ss : List Slot) (i : ℕ) (s : Slot) → i < length ss → slice_get ss i ≡ Some (get_or ss i s)
-got [] i s lt = absurd (omega arith)
-got (x ∷ ss) zero s lt = refl
-got (x ∷ ss) (suc i) s lt = got ss i s (omega arith)
-
-pub last_next : (ss : List Slot) → option_map number_of (slice_get ss (length ss - 1)) ≡ next_in (callers ss)
-last_next [] = refl
-last_next (s ∷ ss) =
-    ap (λ (o : Option Slot). option_map number_of o) (got (s ∷ ss) (length (s ∷ ss) - 1) s (omega arith))
-    ∙ sym (ap next_in (last_first (s ∷ ss) s (omega arith)))
 
 -- the next, or 0
 pub next_or : (o : Option Slot) (s : Slot) (cs : List ℕ) → option_map number_of o ≡ next_in cs → UnwrapsOrElse o (λ (d : Slot). d.number ≡ 0) s → s.number ≡ slice_index cs 0

@@ -1,16 +1,13 @@
 -- A table, read and changed in one row, and searched.
-use Rattle.std.proofs.Common.{◌≡◌, ℕ, zero, suc, ◌+◌, ◌<◌, ◌≤◌, Bool, true, false, ◌||◌, List, [], ◌∷◌, map, length, get_or, set, take, None, Option, sym, refl, ap, ◌∙◌, arith}
+use Rattle.std.proofs.Common.{◌≡◌, ℕ, zero, suc, ◌+◌, ◌<◌, ◌≤◌, Bool, true, false, ◌||◌, List, [], ◌∷◌, map, length, get_or, set, take, sym, refl, ap, ◌∙◌, arith}
 use lib.Seq.{map-set}
 use Rattle.std.proofs.lemmas.List.{get_or-map}
 use Rattle.std.proofs.lemmas.List.Folds.{list_any_more}
 use Rattle.std.specs.List.{list_any}
-use Rattle.std.specs.Option.{option_flatten}
-use Rattle.std.specs.Prelude.{slice_get}
 use Rattle.yard_steps.specs.Model.{Domain as DomainModel, Yard, nobody, at, put, any_below}
 use Rattle.yard.specs.declared.domains.Domain.{Domain}
-use Rattle.yard.specs.declared.entries.Entry.{Entry}
 use Rattle.yard.specs.declared.inners.Inner.{Inner}
-use Rattle.yard.specs.Shapes.{shape, lead}
+use Rattle.yard.specs.Shapes.{shape}
 use Rattle.yard.specs.Views.{view}
 
 pub read : (ds : List Domain) (i : ℕ) (x : Domain) → i < length ds → shape (get_or ds i x) ≡ get_or (map shape ds) i nobody
@@ -43,9 +40,3 @@ any_row q (d ∷ ds) (suc n) le =
     ∙ (or_comm (list_any (λ x. q (shape x)) (take n xs)) (q (shape (get_or xs n d)))
     ∙ (ap (λ b. b || list_any (λ x. q (shape x)) (take n xs)) (ap q (read xs n d (omega arith)))
     ∙ ap (λ b. q (get_or (map shape xs) n nobody) || b) (any_row q (d ∷ ds) n (omega arith)))))
-
--- where the gate g leads
-pub led : (es : List (Option Entry)) (g : ℕ) → lead (option_flatten (slice_get es g)) ≡ get_or (map lead es) g None
-led [] g = refl
-led (e ∷ es) zero = refl
-led (e ∷ es) (suc g) = led es g

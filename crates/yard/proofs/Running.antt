@@ -1,11 +1,10 @@
 -- One turn of a run.
-use Rattle.std.proofs.Common.{◌≡◌, ℕ, zero, suc, ◌+◌, ◌-◌, ◌<◌, Bool, true, false, eqb, List, length, Some, None, ap, ◌∙◌, arith}
-use Rattle.std.proofs.lemmas.Bool.{cond-true, cond-false, eq-eqb, ne_eqb}
-use Rattle.refusal.specs.declared.refusals.Refusal.TheVariants.{HostPending, NoneActive, MemorySize}
+use Rattle.std.proofs.Common.{◌≡◌, ℕ, zero, suc, ◌+◌, ◌-◌, ◌<◌, Bool, List, Some, None, sym, ap, ◌∙◌, subst, arith}
+use mathlib.Core.Logic.{∥∥₁_map}
 use Rattle.yard_steps.specs.declared.reports.Ending.{Ending}
-use Rattle.yard_steps.specs.Model.{Yard, some_active}
+use Rattle.yard_steps.specs.Model.{Yard}
 use Rattle.yard_steps.specs.Steps.{After, stepped, on, ran}
-use Rattle.yard_steps.specs.Calls.{run_refused}
+use Rattle.yard_steps.specs.Whole.{Whole}
 use Rattle.yard.specs.Views.{afterwards}
 use Rattle.yard.specs.Yards.{counted, ran_to}
 
@@ -20,16 +19,6 @@ module _ (A : ℕ → ℕ → Bool) (y y' : Yard) (bs bs' : List ℕ) where
   ending zero n e some step = absurd (omega arith)
   ending (suc k) n e some step = ap (λ (a : After). on a (n + 1) (ran A k)) step
 
--- why a run is turned down
-module _ (y : Yard) (bs : List ℕ) where
-  pub while_pending : y.pending ≡ true → run_refused y bs ≡ Some HostPending
-  while_pending p = cond-true y.pending _ _ p
-
-  pub none_active : y.pending ≡ false → some_active y ≡ false → run_refused y bs ≡ Some NoneActive
-  none_active p a = cond-false y.pending _ _ p ∙ cond-false (some_active y) _ _ a
-
-  pub other_size : y.pending ≡ false → some_active y ≡ true → (length bs ≡ y.size → ⊥) → run_refused y bs ≡ Some MemorySize
-  other_size p a s = cond-false y.pending _ _ p ∙ (cond-true (some_active y) _ _ a ∙ cond-false (eqb (length bs) y.size) _ _ (ne_eqb (length bs) y.size s))
-
-  pub taken : y.pending ≡ false → some_active y ≡ true → length bs ≡ y.size → run_refused y bs ≡ None
-  taken p a s = cond-false y.pending _ _ p ∙ (cond-true (some_active y) _ _ a ∙ cond-true (eqb (length bs) y.size) _ _ (eq-eqb (length bs) y.size s))
+-- a yard that a call leaves is whole
+pub left_whole : {T : Type 0} (y z : Yard) (a : T) (p : Yard × T) → (z, a) ≡ p → ∥ Whole y ∥₁ → (Whole y → Whole p.0) → ∥ Whole z ∥₁
+left_whole y z a p e w keeps = ∥∥₁_map w (λ h. subst Whole (sym (ap (λ q. q.0) e)) (keeps h))

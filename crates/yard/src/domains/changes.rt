@@ -96,7 +96,7 @@ impl Domain {
         register(&self.registers, r)
     }
 
-    // The seven numbers that it hands over.
+    // The seven numbers that it hands over. Each register is written out: a loop would count in `u8` beside the index.
     pub fn arguments(&self) -> [u32; 7]
         ensures { result ≡ arguments (shape self.now).registers }
     {

@@ -146,5 +146,5 @@ impl<'a> Inner<'a> {
 fn is_gate(gate: u32) -> bool
     ensures { result ≡ gate_fits gate }
 {
-    1 <= gate && gate <= 30
+    (1..=30).contains(&gate)
 }

@@ -5,7 +5,7 @@ ghost use Rattle.machine.specs.Registers.{written};
 ghost use Rattle.yard_steps.specs.Model.{new_yard, at, put, chained, current, gate_at, mapped, some_active};
 ghost use Rattle.yard_steps.specs.Steps.{turned, after, fetched, behind, entered, rest};
 ghost use Rattle.yard_steps.specs.Calls.{near, with_domain, with_entry, answered};
-ghost use Rattle.yard.specs.Shapes.{shape, lead, number_of, next_in, pointed};
+ghost use Rattle.yard.specs.Shapes.{shape, lead, number_of, callers, next_in, pointed};
 ghost use Rattle.yard.specs.Views.{view, lead_to, without_active};
 
 use crate::codes::Code;
@@ -19,6 +19,13 @@ use rv32i::Instruction;
 use segment::Segment;
 use std::alloc::{AllocError, Global};
 use yard_steps::Event;
+
+// The last of a chain, if there is one.
+fn last(chain: &ArrayVec<Slot, 8>) -> Option<Slot>
+    ensures { option_map number_of result ≡ next_in (callers chain.now.items) }
+{
+    chain.last().copied()
+}
 
 // Something happens to every domain.
 fn meet_all(domains: &mut [Domain; 8], event: Event)
@@ -41,6 +48,7 @@ impl<'a> Inner<'a> {
             count: 0,
             gates: [None; 31],
             chain: ArrayVec::new(),
+            current: Slot::default(),
             pending: false,
         })
     }
@@ -79,14 +87,14 @@ impl<'a> Inner<'a> {
     pub fn current(&self) -> Slot
         ensures { result.number ≡ current (view self.now) }
     {
-        self.first().unwrap_or_default()
+        self.current
     }
 
     // The current domain, if there is one.
     pub fn first(&self) -> Option<Slot>
         ensures { option_map number_of result ≡ next_in (view self.now).chain }
     {
-        self.chain.last().copied()
+        last(&self.chain)
     }
 
     pub fn domain(&self, i: Slot) -> &Domain
@@ -131,6 +139,7 @@ impl<'a> Inner<'a> {
         self.gates.get(gate as usize).copied().flatten()
     }
 
+    // Each change of a domain takes the table by itself first, since one of `self.domains[..]` gets no proof.
     pub fn write(&mut self, i: Slot, rd: u8, value: u32, pc: u32)
         ensures { view self.new ≡ put (view self.old) i.number (turned (at (view self.old) i.number) (written (at (view self.old) i.number).registers rd value) pc) }
     {
@@ -185,6 +194,7 @@ impl<'a> Inner<'a> {
         ensures { view self.new ≡ chained (view self.old) (rest (view self.old).chain) false }
     {
         self.chain.pop();
+        self.current = last(&self.chain).unwrap_or_default();
         self.pending = false;
     }
 
@@ -194,6 +204,7 @@ impl<'a> Inner<'a> {
         ensures { view self.new ≡ chained (view self.old) (i.number ∷ (view self.old).chain) false }
     {
         self.chain.push(i);
+        self.current = i;
         self.pending = false;
     }
 
@@ -203,6 +214,7 @@ impl<'a> Inner<'a> {
     {
         self.chain.clear();
         self.chain.push(i);
+        self.current = i;
         self.pending = false;
     }
 
@@ -235,6 +247,7 @@ impl<'a> Inner<'a> {
     {
         meet_all(&mut self.domains, Event::Cut);
         self.chain.clear();
+        self.current = Slot::default();
         self.pending = false;
     }
 }

@@ -56,7 +56,8 @@ impl<'a> Yard<'a> {
         self.inner.call(gate, values)
     }
 
-    // The waiting domain gets a number in x10 and is active. A refused reply hands the pending call back.
+    // The waiting domain gets a number in x10 and is active. A refused reply hands the pending call back. No `map_err`: each way
+    // has to use the pending call up.
     pub fn reply(&mut self, pending: Pending, value: u32) -> Result<(), (Refusal, Pending)>
         ensures is { (seen self.new, told_back result) ≡ replied (seen self.old) value }
     {

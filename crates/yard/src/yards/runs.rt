@@ -1,5 +1,5 @@
 ghost use Rattle.std.specs.Prelude.{◌≡◌, ℕ, ◌<◌, Bool, false, List, length, None, Ok};
-ghost use Rattle.yard_steps.specs.Calls.{running};
+ghost use Rattle.yard_steps.specs.Calls.{run_refused, running};
 ghost use Rattle.yard_steps.specs.Fence.{FencedRun};
 ghost use Rattle.yard_steps.specs.Steps.{stepped, spent, ran};
 ghost use Rattle.yard.specs.Views.{afterwards};
@@ -26,18 +26,29 @@ impl<'a> Yard<'a> {
         ensures token { Tokened result }
         ensures fenced { ∥ FencedRun (P.Policy.allowed policy.now) budget (seen self.old) (M.Memory.bytes memory.old) ∥₁ }
     {
-        if self.inner.is_pending() {
-            return Err(Refusal::HostPending);
-        }
-        if !self.inner.has_active() {
-            return Err(Refusal::NoneActive);
-        }
-        if memory.size() != self.inner.size() {
-            return Err(Refusal::MemorySize);
+        if let Some(refusal) = self.run_refused(memory) {
+            return Err(refusal);
         }
         Ok(outcome(self.run_on(memory, policy, budget)))
     }
 
+    // Why a run is turned down, if it is.
+    fn run_refused<M: Memory>(&self, memory: &M) -> Option<Refusal>
+        ensures { result ≡ run_refused (seen self.now) (M.Memory.bytes memory.now) }
+    {
+        if self.inner.is_pending() {
+            return Some(Refusal::HostPending);
+        }
+        if !self.inner.has_active() {
+            return Some(Refusal::NoneActive);
+        }
+        if memory.size() != self.inner.size() {
+            return Some(Refusal::MemorySize);
+        }
+        None
+    }
+
+    // A `loop`, whose value is the report: a `for` over the budget has none.
     fn run_on<M: Memory, P: Policy>(&mut self, memory: &mut M, policy: &P, budget: u32) -> Report
         requires { GoesOn (seen self.old) }
         ensures is { ran_to (seen self.new) (M.Memory.bytes memory.new) result ≡ ran (P.Policy.allowed policy.now) budget 0 (seen self.old) (M.Memory.bytes memory.old) }
@@ -79,6 +90,7 @@ impl<'a> Yard<'a> {
     }
 }
 
+// No `From`: the count comes beside the ending.
 fn report(ending: Ending, count: u32) -> Report
     ensures { result ≡ counted ending count }
 {

@@ -1,11 +1,9 @@
-use Rattle.std.proofs.Common.{sym, ap, subst}
-use mathlib.Core.Logic.{∥∥₁_map}
-use Rattle.yard_steps.specs.Whole.{Whole}
 use Rattle.yard_steps.proofs.Hosts.{replied_whole}
 use Rattle.yard.specs.Views.{view}
+use Rattle.yard.proofs.Running.{left_whole}
 use Rattle.yard.proofs.yards.Yard.reply.Goals as goal
 
 pub invariant_of-self : goal.invariant_of-self
 invariant_of-self c =
     let y = c.args.self.now in
-    record { whole = ∥∥₁_map y.whole (λ h. subst Whole (sym (ap (λ p. p.0) c.reply.ensures)) (replied_whole (view y.inner) c.args.value h)) }
+    record { whole = left_whole (view y.inner) _ _ _ c.reply.ensures y.whole (λ h. replied_whole (view y.inner) c.args.value h) }
