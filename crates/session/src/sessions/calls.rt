@@ -162,13 +162,13 @@ impl<'a> Session<'a> {
     fn reply(&mut self, value: u32) -> Result<(), Refusal>
         ensures is { (code : List ℕ) (under : Bool) → (view self.new code under, Some (said.Replied (told_in result))) ≡ performed (cmd.Reply value) (view self.old code under) }
     {
-        match self.pending.take() {
-            None => Err(Refusal::NonePending),
-            Some(pending) => match self.yard.reply(pending, value) {
-                Ok(()) => Ok(()),
-                // The yard waits for the answer to this call.
-                Err(_) => unreachable(),
-            },
+        let Some(pending) = self.pending.take() else {
+            return Err(Refusal::NonePending);
+        };
+        match self.yard.reply(pending, value) {
+            Ok(()) => Ok(()),
+            // The yard waits for the answer to this call.
+            Err(_) => unreachable(),
         }
     }
 }
@@ -179,12 +179,11 @@ fn hold(pending: &mut Option<Pending>, outcome: Result<Outcome, Refusal>) -> Res
     ensures is { result ≡ reported outcome }
     ensures held { is_some pending.new ≡ holding (is_some pending.old) outcome }
 {
-    match outcome {
-        Ok(Outcome::Ended(report)) => Ok(report),
-        Ok(Outcome::Asked(report, call)) => match pending.replace(call) {
+    match outcome? {
+        Outcome::Ended(report) => Ok(report),
+        Outcome::Asked(report, call) => match pending.replace(call) {
             Some(_) => unreachable(),
             None => Ok(report),
         },
-        Err(refusal) => Err(refusal),
     }
 }

@@ -82,10 +82,8 @@ impl<'a> Inner<'a> {
         if !is_gate(gate) {
             return Err(Refusal::NoGate);
         }
-        match self.gate(gate) {
-            None => Err(Refusal::GateEmpty),
-            Some(entry) => self.call_through(entry, values),
-        }
+        let entry = self.gate(gate).ok_or(Refusal::GateEmpty)?;
+        self.call_through(entry, values)
     }
 
     fn call_through(&mut self, entry: Entry, values: [u32; 7]) -> Result<(), Refusal>
