@@ -44,6 +44,7 @@ impl<'a> Code<'a> {
         if pc % 4 != 0 || i >= self.cells.len() {
             return Err(Stop::Fetch { pc });
         }
+        // No `map_err`: its closure would have to know again that `i` is within the store.
         match &self.cells[i] {
             Ok(instruction) => Ok(instruction),
             Err(_) => Err(Stop::Illegal {

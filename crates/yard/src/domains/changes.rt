@@ -160,7 +160,7 @@ impl Domain {
         set_register(&mut self.registers, 11, second);
     }
 
-    // It is entered with seven numbers.
+    // It is entered with seven numbers, each put into its register as `arguments` reads it.
     pub fn enter(&mut self, values: [u32; 7], pc: u32)
         ensures { shape self.new ≡ after Event.Entered (turned (shape self.old) (handed values (shape self.old).registers) pc) }
     {
