@@ -21,7 +21,8 @@ fn full_window() -> [u32; 4096] {
     array::from_fn(|place| LOOP[place % LOOP.len()])
 }
 
-// How many of so many checks accept the window; one word is another each time, so that none can be left out.
+// How many of so many checks accept the window; one word is another each time, so that none can be left out. (A `for`, since a
+// closure that changes the window is no plainer.)
 fn accepted(words: &mut [u32; 4096], rounds: u32) -> u32 {
     let mut count = 0u32;
     for round in 0..rounds {

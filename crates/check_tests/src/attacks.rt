@@ -1,3 +1,4 @@
+// A test for each attack, by its name, which rows of one table would not have.
 use crate::windows::{one, two};
 
 #[test]

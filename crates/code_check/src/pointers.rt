@@ -12,6 +12,7 @@ pub enum Pointer {
     Code,
 }
 
+// Three tables, and no struct of three numbers, since whoever asks wants one of them.
 impl Pointer {
     // The pointer that a register holds.
     pub(crate) fn held_by(register: u8) -> Option<Pointer>

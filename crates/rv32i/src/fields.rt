@@ -1,4 +1,4 @@
-// The fields of a word, and the immediate of each format.
+// The fields of a word, and the immediate of each format: a function each, by the manual's name. `field` is what they share.
 ghost use Rattle.std.specs.Prelude.{◌≡◌, ◌+◌, ◌-◌, ◌<◌, ◌≤◌};
 ghost use Rattle.rv32i.specs.Fields.{bits, opcode_of, rd_of, funct3_of, rs1_of, rs2_of, funct7_of};
 ghost use Rattle.rv32i.specs.Fields.{imm_i, imm_s, imm_b, imm_u, imm_j};

@@ -6,7 +6,8 @@ use rv32i::{Cause, Instruction};
 
 mod fetching;
 
-// A code store, and what each of the words that count decodes to.
+// A code store, and what each of the words that count decodes to. They stand side by side, since the store is lent, read by the
+// check as it is, and given back.
 #[derive(Drop)]
 pub struct Code<'a> {
     store: &'a [u32],

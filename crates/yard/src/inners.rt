@@ -24,6 +24,7 @@ pub struct Inner<'a> {
     // none, stands by itself too, since every step asks for it: one that reads the chain takes four hundredths longer.
     chain: ArrayVec<Slot, 8>,
     current: Slot,
+    // As in the model. Read off the current domain's state, it would ask the table, and hold of a whole yard alone.
     pending: bool,
     ghost few: { count ≤ 8 },
     ghost last: { current.number ≡ slice_index (callers chain.items) 0 },

@@ -15,7 +15,8 @@ impl Pending {
     }
 }
 
-// How a run ended. Where a domain asks the host, its call is given out.
+// How a run ended. Where a domain asks the host, its call is given out; that it is so exactly there stands as a clause `token`,
+// since an enum has no ghost field.
 pub enum Outcome {
     Ended(Report),
     Asked(Report, Pending),

@@ -167,7 +167,7 @@ impl<'a> Operands<'a> {
         read.ok_or(Problem::Instruction)
     }
 
-    // Those above 3 count as 3.
+    // Those above 3 count as 3. (`N ≤ 32` is asked here and below so that the array fits in memory.)
     fn rings<const N: usize>(&mut self) -> Result<[u8; N], Problem>
         requires { N ≤ 32 }
     {

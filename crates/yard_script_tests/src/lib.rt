@@ -1,4 +1,4 @@
-// Scripts that are not run, and why.
+// Scripts that are not run, and why. It stands beside `script_tests` as `yard_script` does beside `script`.
 #![tactic(auto)]
 
 #[cfg(test)]

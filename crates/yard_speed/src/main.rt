@@ -65,6 +65,7 @@ fn main(rt: HostRuntime) -> anyhow::Result<()> {
     let words = words.context("the file has no whole number of words")?;
     let mut yard = Yard::new(heap, words.as_slice(), SIZE)?;
     let m = window_bits(words.len());
+    // A refusal is printed, and not handed on: it is an answer, and the program ends well.
     if let Err(refusal) = prepare(&mut yard, m, argument.unwrap_or(1)) {
         return Ok(println!(rt; "refused {refusal}")?);
     }

@@ -51,6 +51,7 @@ impl Domain {
         self.pc
     }
 
+    // Three tests by name, as the model has them; one that compares would need an equality of states, and its law at each call.
     pub fn is_idle(&self) -> bool
         ensures { result ≡ is_idle (shape self.now).state }
     {
