@@ -5,6 +5,7 @@ ghost use Rattle.std.specs.Prelude.{◌≡◌, IfOk, slice_index};
 ghost use Rattle.memories.specs.Layout.{counted, woven};
 ghost use Rattle.buffers.specs.Bytes.{bytes_of, zeros, peeked};
 
+use memories::LIMIT;
 use memories::flat::Flat;
 use memories::lanes::Lanes;
 use memory::Memory;
@@ -52,13 +53,11 @@ impl Buffers {
     }
 }
 
-const LIMIT: u32 = 1_048_576;
-
 // Bytes past what a memory counts could not be seen, and are not made.
 fn zeroed(heap: Global, length: u32) -> Result<Vec<u8>, AllocError>
     ensures is { IfOk result (λ v. v.items ≡ zeros length) }
 {
-    vec![in heap; 0; length.min(LIMIT) as usize]
+    vec![in heap; 0; (length as usize).min(LIMIT)]
 }
 
 // This and the next stand apart, since of a `Vec` that `peek` itself lends to a memory the check loses what it holds afterwards.
@@ -110,35 +109,4 @@ fn peek_at<M: Memory>(
     (0..count)
         .map(|i| address.checked_add(i).and_then(|a| memory.read(a)))
         .collect(heap)
-}
-
-#[cfg(test)]
-mod tests {
-    use crate::Buffers;
-    use std::test::Fail;
-
-    #[test]
-    fn flat(rt: HostRuntime) -> Result<(), Fail> {
-        let mut buffers = Buffers::flat(rt.alloc(), 3)?;
-        let bytes = buffers.peek(rt.alloc(), 1, 3)?;
-        assert_eq!(rt; bytes.as_slice(), [Some(0), Some(0), None].as_slice());
-        Ok(())
-    }
-
-    // A place past the shortest lane does not count.
-    #[test]
-    fn lanes(rt: HostRuntime) -> Result<(), Fail> {
-        let mut buffers = Buffers::lanes(rt.alloc(), [2, 1, 3, 2])?;
-        let bytes = buffers.peek(rt.alloc(), 3, 2)?;
-        assert_eq!(rt; bytes.as_slice(), [Some(0), None].as_slice());
-        Ok(())
-    }
-
-    #[test]
-    fn limit(rt: HostRuntime) -> Result<(), Fail> {
-        let mut buffers = Buffers::flat(rt.alloc(), 0xffff_ffff)?;
-        let bytes = buffers.peek(rt.alloc(), 1_048_575, 2)?;
-        assert_eq!(rt; bytes.as_slice(), [Some(0), None].as_slice());
-        Ok(())
-    }
 }

@@ -1,3 +1,4 @@
+// A test for each limit, by its name, which rows of one table would not have.
 use crate::windows::{GOOD, told};
 use refusal::{Refusal, Rule};
 use rv32i::Cause;
@@ -68,22 +69,22 @@ fn refusals_as_text(rt: HostRuntime) -> Result<(), Fail> {
     Ok(())
 }
 
-// The number of the refusal, or 0 where the segment is made.
-fn segment_told(base: u32, k: u32, memory: u32) -> u8 {
-    Segment::new(base, k, memory).map_or_else(|refusal| refusal.number(), |_| 0)
+// The number of the refusal, where the segment is not made.
+fn segment_told(base: u32, k: u32, memory: u32) -> Option<u8> {
+    Some(Segment::new(base, k, memory).err()?.number())
 }
 
 #[test]
 fn segments(rt: HostRuntime) {
-    assert_eq!(rt; segment_told(0, 10, 1024), 0);
-    assert_eq!(rt; segment_told(0, 9, 1024), 4);
-    assert_eq!(rt; segment_told(0, 17, 1048576), 4);
-    assert_eq!(rt; segment_told(512, 10, 4096), 5);
-    assert_eq!(rt; segment_told(4096, 12, 8191), 5);
-    assert_eq!(rt; segment_told(4096, 12, 8192), 0);
-    assert_eq!(rt; segment_told(983040, 16, 4294967295), 0);
-    assert_eq!(rt; segment_told(1048576, 10, 4294967295), 5);
-    assert_eq!(rt; segment_told(4294966272, 10, 4294967295), 5);
+    assert_eq!(rt; segment_told(0, 10, 1024), None);
+    assert_eq!(rt; segment_told(0, 9, 1024), Some(4));
+    assert_eq!(rt; segment_told(0, 17, 1048576), Some(4));
+    assert_eq!(rt; segment_told(512, 10, 4096), Some(5));
+    assert_eq!(rt; segment_told(4096, 12, 8191), Some(5));
+    assert_eq!(rt; segment_told(4096, 12, 8192), None);
+    assert_eq!(rt; segment_told(983040, 16, 4294967295), None);
+    assert_eq!(rt; segment_told(1048576, 10, 4294967295), Some(5));
+    assert_eq!(rt; segment_told(4294966272, 10, 4294967295), Some(5));
 }
 
 #[test]

@@ -10,4 +10,4 @@ mod windows;
 
 pub use checking::check;
 pub use pointers::Pointer;
-pub use windows::{bits_fit, code_mask, window};
+pub use windows::{STORE_WORDS, bits_fit, code_mask, window};

@@ -10,7 +10,7 @@ const LEAST_BITS: u32 = 6;
 const MOST_BITS: u32 = 14;
 
 // So many words of a store count.
-const STORE_WORDS: usize = 16384;
+pub const STORE_WORDS: usize = 16384;
 
 // Whether a window may have 2^m bytes.
 pub fn bits_fit(m: u32) -> bool

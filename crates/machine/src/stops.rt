@@ -2,7 +2,7 @@ ghost use Rattle.std.specs.Prelude.{◌≡◌};
 ghost use Rattle.machine.specs.Stops.{stop_row};
 
 // Why a step stops; such a step writes no register and no memory. Of two causes the earlier wins.
-#[derive(Clone, Copy, Debug, PartialEq, Eq)]
+#[derive(Clone, Copy)]
 pub enum Stop {
     // The pc is no multiple of 4, or past the code store.
     Fetch { pc: u32 },

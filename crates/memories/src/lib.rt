@@ -6,4 +6,4 @@ pub mod flat;
 pub mod lanes;
 
 // No memory counts more bytes than this.
-const LIMIT: usize = 1_048_576;
+pub const LIMIT: usize = 1_048_576;

@@ -28,8 +28,8 @@ pub trait Memory {
         ensures bytes { bytes self.new ≡ byte_put (bytes self.old) address byte }
         ensures lent { lent self.new ≡ lent self.old };
 
-    // The four bodies below differ in the width alone: a method may have no const parameter, and a function over any memory,
-    // called here at Self, gets no proof unless the bodies are final, while a memory may bring its own.
+    // The four bodies below differ in the width alone: a trait's method may have no const parameter, and a function over any
+    // memory, called here at Self, gets no proof unless the bodies are final, while a memory may bring its own.
     fn read_half(&self, address: u32) -> Option<u16>
         ensures is { result ≡ half_at (bytes self.now) address }
     {

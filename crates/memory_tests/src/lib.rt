@@ -2,6 +2,9 @@
 #![tactic(auto)]
 
 #[cfg(test)]
+mod kept;
+
+#[cfg(test)]
 mod tests {
     use memories::any::AnyMemory;
     use memories::flat::Flat;

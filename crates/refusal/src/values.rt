@@ -1,4 +1,4 @@
-// The values that come with a refusal's number, three at most: a `Vec` would need a heap, and a refusal has none.
+// The values that come with a refusal's number, three at most. An enum is `Copy`, as a refusal is, and callers match on it.
 #[derive(Clone, Copy)]
 pub enum Values {
     Empty,

@@ -20,11 +20,12 @@ pub struct Inner<'a> {
     domains: [Domain; 8],
     count: usize,
     gates: [Option<Entry>; 31],
-    // The domains that are at work: each was called by the one before it. The last, or the first of the table where there is
-    // none, stands by itself too, since every step asks for it: one that reads the chain takes four hundredths longer.
+    // The domains that are at work: each was called by the one before it.
     chain: ArrayVec<Slot, 8>,
+    // The last of them, or the first of the table where there is none. It stands by itself too, since every step asks for it, and
+    // without it a run is slower than a plain interpreter in C.
     current: Slot,
-    // As in the model. Read off the current domain's state, it would ask the table, and hold of a whole yard alone.
+    // As in the model; the current domain's state says the same only of a whole yard.
     pending: bool,
     ghost few: { count ≤ 8 },
     ghost last: { current.number ≡ slice_index (callers chain.items) 0 },

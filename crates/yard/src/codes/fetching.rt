@@ -4,12 +4,10 @@ ghost use Rattle.yard_steps.specs.Steps.{fetched};
 ghost use Rattle.yard.specs.Shapes.{pointed};
 
 use crate::codes::Code;
+use code_check::STORE_WORDS;
 use machine::Stop;
 use rv32i::{Cause, Instruction, decode};
 use std::alloc::{AllocError, Global};
-
-// So many words of a store count.
-const STORE_WORDS: usize = 16384;
 
 fn decode_all(heap: Global, words: &[u32]) -> Result<Vec<Result<Instruction, Cause>>, AllocError>
     ensures { IfOk result (λ v. v.items ≡ map decoded words.now) }

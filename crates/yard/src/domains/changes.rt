@@ -97,7 +97,7 @@ impl Domain {
         register(&self.registers, r)
     }
 
-    // The seven numbers that it hands over. Each register is written out: a loop would count in `u8` beside the index.
+    // The seven numbers that it hands over. Each register is written out, as the model has them: a loop would be no shorter to read.
     pub fn arguments(&self) -> [u32; 7]
         ensures { result ≡ arguments (shape self.now).registers }
     {

@@ -139,7 +139,8 @@ impl<'a> Inner<'a> {
         self.gates.get(gate as usize).copied().flatten()
     }
 
-    // Each change of a domain takes the table by itself first, since one of `self.domains[..]` gets no proof.
+    // Each change of a domain is a function here, and takes the table by itself first: a call on `self.domains[i]` in place gets no
+    // proof, nor does a `&mut` of a row that is handed out.
     pub fn write(&mut self, i: Slot, rd: u8, value: u32, pc: u32)
         ensures { view self.new ≡ put (view self.old) i.number (turned (at (view self.old) i.number) (written (at (view self.old) i.number).registers rd value) pc) }
     {

@@ -17,8 +17,8 @@ use policy::Policy;
 use rv32i::LoadOp;
 use yard_steps::{Ending, Event, Reason};
 
-// `Ready`, which five functions ask for, follows from the invariant of `Yard`. In the middle of a step it does not hold, so that
-// no type can have it.
+// `Ready`, which five functions ask for, follows from the invariant of `Yard`. That invariant does not hold in the middle of a
+// step, so that no type of this layer has it.
 impl<'a> Inner<'a> {
     // The current domain, if there is one, gets two numbers.
     fn tell(&mut self, first: u32, second: u32)

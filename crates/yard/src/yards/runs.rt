@@ -32,7 +32,7 @@ impl<'a> Yard<'a> {
         Ok(outcome(self.run_on(memory, policy, budget)))
     }
 
-    // Why a run is turned down, if it is.
+    // Why a run is turned down, if it is: an `Option`, as the model has it, and its equation is that of the definition.
     fn run_refused<M: Memory>(&self, memory: &M) -> Option<Refusal>
         ensures { result ≡ run_refused (seen self.now) (M.Memory.bytes memory.now) }
     {
@@ -48,7 +48,7 @@ impl<'a> Yard<'a> {
         None
     }
 
-    // A `loop`, whose value is the report: a `for` over the budget has none.
+    // A `loop` that is left by `break` with the report as its value: the form that was asked for.
     fn run_on<M: Memory, P: Policy>(&mut self, memory: &mut M, policy: &P, budget: u32) -> Report
         requires { GoesOn (seen self.old) }
         ensures is { ran_to (seen self.new) (M.Memory.bytes memory.new) result ≡ ran (P.Policy.allowed policy.now) budget 0 (seen self.old) (M.Memory.bytes memory.old) }
