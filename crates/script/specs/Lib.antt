@@ -1,4 +1,3 @@
 pub mod Numbers
-pub mod States
-pub mod Answers
 pub mod Words
+pub mod Yards

@@ -1,14 +1,12 @@
-// The script language: a command a line, and what each command answers.
+// The script language: a command a line.
 #![tactic(auto)]
 
 mod code;
 mod commands;
 mod faults;
 mod reading;
-mod sessions;
 
 pub use code::words;
-pub use commands::{Answer, Command};
+pub use commands::Command;
 pub use faults::{Fault, Problem};
 pub use reading::{Line, read};
-pub use sessions::Session;

@@ -101,4 +101,78 @@ mod tests {
         }
         Ok(())
     }
+
+    #[test]
+    fn yards(rt: HostRuntime) -> Result<(), Fail> {
+        let heap = rt.alloc();
+        let words = "line 1: the command has another number of words";
+        let number = "line 1: this is no number of at most 32 bits";
+        for text in [
+            "yard 8192\nopen 1 0 0\nrun 10\nreply 1\ncut\nregister 0 11",
+            "call 1\ncall 1 1 2 3 4 5 6 7",
+        ] {
+            accepts(&rt, heap, text);
+        }
+        for (text, expected) in [
+            ("call 1 1 2 3 4 5 6 7 8", words),
+            ("call", words),
+            ("yard", words),
+            ("open 1 0", words),
+            ("run 10 10", words),
+            ("reply", words),
+            ("cut 0", words),
+            ("register 0", words),
+            ("call 1 x", number),
+        ] {
+            refuses(&rt, heap, text, expected)?;
+        }
+        Ok(())
+    }
+
+    #[test]
+    fn registers(rt: HostRuntime) -> Result<(), Fail> {
+        let heap = rt.alloc();
+        let words = "line 1: the command has another number of words";
+        let register = "line 1: this sets no register";
+        accepts(
+            &rt,
+            heap,
+            "admit 0 6 0 12\nadmit 0 6 0 12 x0=1 x31=0xffffffff",
+        );
+        for (text, expected) in [
+            ("admit 0 6 0", words),
+            ("admit 0 6 0 12 7", register),
+            ("admit 0 6 0 12 x1=2 x32=1", register),
+            ("admit 0 6 0 12 x1", register),
+            ("admit 0 6 0 12 1=1", register),
+            ("admit 0 6 0 12 x=1", register),
+            ("admit 0 6 0 12 x+1=1", register),
+            ("admit 0 6 0 12 x0x1=1", register),
+            ("admit 0 6 0 12 x1=", register),
+            ("admit 0 6 0 12 x1=4294967296", register),
+        ] {
+            refuses(&rt, heap, text, expected)?;
+        }
+        Ok(())
+    }
+
+    #[test]
+    fn code_under_a_yard(rt: HostRuntime) -> Result<(), Fail> {
+        let heap = rt.alloc();
+        accepts(&rt, heap, "code 1\nyard 0\nyard 4");
+        for (text, expected) in [
+            ("yard 0\ncode 1", "line 2: the code store is under a yard"),
+            (
+                "yard 0\n\ncode-file a",
+                "line 3: the code store is under a yard",
+            ),
+            (
+                "yard 0\ncode x",
+                "line 2: this is no number of at most 32 bits",
+            ),
+        ] {
+            refuses(&rt, heap, text, expected)?;
+        }
+        Ok(())
+    }
 }

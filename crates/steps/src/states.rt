@@ -1,6 +1,6 @@
 ghost use Rattle.std.specs.Prelude.{◌≡◌};
 ghost use Rattle.steps.specs.States.{moved};
-ghost use Rattle.steps.specs.Fence.{Stays, Executes, Faultless, Crosses, Kept};
+ghost use Rattle.steps.specs.Fence.{Fence, Kept};
 
 #[derive(Clone, Copy)]
 pub enum State {
@@ -26,10 +26,7 @@ impl State {
     // this decides.
     pub fn after(self, event: Event) -> State
         ensures is { result ≡ moved self event }
-        ensures stays { Stays }
-        ensures executes { Executes }
-        ensures faultless { Faultless }
-        ensures crosses { Crosses }
+        ensures fence { Fence }
         ensures kept { Kept }
     {
         self.following(event)

@@ -1,7 +1,7 @@
 ghost use Rattle.std.specs.Prelude.{◌+◌, ◌^◌, ◌≤◌};
 
 use segment::Segment;
-use yard_steps::State;
+use steps::State;
 
 mod changes;
 
