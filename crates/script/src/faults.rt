@@ -12,10 +12,6 @@ pub enum Problem {
     Number,
     #[error("this is the text of no instruction")]
     Instruction,
-    #[error("this sets no register")]
-    Register,
-    #[error("the code store is under a yard")]
-    UnderYard,
     #[error("the file cannot be read")]
     File,
     #[error("the file has no whole number of words")]

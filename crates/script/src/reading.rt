@@ -1,7 +1,5 @@
-ghost use Rattle.std.specs.Prelude.{◌≡◌, ◌<◌, ◌≤◌, IfSome};
-ghost use Rattle.std.specs.Result.{result_ok};
+ghost use Rattle.std.specs.Prelude.{◌≤◌};
 ghost use Rattle.script.specs.Numbers.{Worth};
-ghost use Rattle.script.specs.Yards.{stands_after};
 
 use crate::commands::Command;
 use crate::faults::{Fault, Problem};
@@ -21,31 +19,18 @@ pub struct Line {
 // word is passed over.
 pub fn read(heap: Global, text: &str) -> Result<Vec<Line>, Fault> {
     let mut lines = Vec::new(heap);
-    let mut under_yard = false;
     for (number, row) in (1..).zip(text.lines()) {
         let fault = |problem| Fault {
             line: number,
             problem,
         };
         if let Some(command) = command_of(heap, row).map_err(fault)? {
-            under_yard = stands(&command, under_yard).map_err(fault)?;
             lines
                 .push(Line { number, command })
                 .map_err(|_| fault(Problem::Memory))?;
         }
     }
     Ok(lines)
-}
-
-// Whether a yard stands over the code store after the command. A yard's code does not change, so none is appended there.
-fn stands(command: &Command, under_yard: bool) -> Result<bool, Problem>
-    ensures is { result_ok result ≡ stands_after command.now under_yard }
-{
-    match command {
-        Command::Yard(_) => Ok(true),
-        Command::Code(_) | Command::CodeFile(_) if under_yard => Err(Problem::UnderYard),
-        _ => Ok(under_yard),
-    }
 }
 
 fn command_of(heap: Global, row: &str) -> Result<Option<Command>, Problem> {
@@ -94,36 +79,6 @@ impl<'a> Operands<'a> {
                 base: self.number()?,
                 m: self.number()?,
             },
-            _ => return self.yard_command(name),
-        })
-    }
-
-    fn yard_command(&mut self, name: &str) -> Result<Command, Problem> {
-        Ok(match name {
-            "yard" => Command::Yard(self.number()?),
-            "admit" => Command::Admit {
-                base: self.number()?,
-                m: self.number()?,
-                data: self.number()?,
-                k: self.number()?,
-                registers: self.registers()?,
-            },
-            "open" => Command::Open {
-                gate: self.number()?,
-                domain: self.number()?,
-                offset: self.number()?,
-            },
-            "call" => Command::Call {
-                gate: self.number()?,
-                values: self.first_numbers()?,
-            },
-            "run" => Command::Run(self.number()?),
-            "reply" => Command::Reply(self.number()?),
-            "cut" => Command::Cut,
-            "register" => Command::Register {
-                domain: self.number()?,
-                number: self.number()?,
-            },
             _ => return Err(Problem::Command),
         })
     }
@@ -134,16 +89,6 @@ impl<'a> Operands<'a> {
             "lanes" => Ok(Command::LanesMemory(self.numbers()?)),
             _ => Err(Problem::Command),
         }
-    }
-
-    // All the words of the line that are left set a register.
-    fn registers(&mut self) -> Result<[u32; 32], Problem> {
-        let mut registers = [0; 32];
-        for word in self.words.by_ref() {
-            let (register, value) = setting(word).ok_or(Problem::Register)?;
-            registers[register] = value;
-        }
-        Ok(registers)
     }
 
     // All the words of the line that are left, of which there is at least one.
@@ -180,13 +125,6 @@ impl<'a> Operands<'a> {
         array::try_from_fn(|_| self.number())
     }
 
-    // Numbers for the first places, as many as there are words, and no more than there are places.
-    fn first_numbers<const N: usize>(&mut self) -> Result<[u32; N], Problem>
-        requires { N ≤ 32 }
-    {
-        array::try_from_fn(|_| self.words.next().map_or(Ok(0), number))
-    }
-
     fn number(&mut self) -> Result<u32, Problem> {
         number(self.word()?)
     }
@@ -194,18 +132,6 @@ impl<'a> Operands<'a> {
     fn word(&mut self) -> Result<&'a str, Problem> {
         self.words.next().ok_or(Problem::Words)
     }
-}
-
-// A register, by its number, and what it is set to, as `x11=0x12` says.
-fn setting(word: &str) -> Option<(usize, u32)>
-    ensures bound { IfSome result (λ s. s.0 < 32) }
-{
-    let (register, value) = word.strip_prefix('x')?.split_once('=')?;
-    let register = worth_of(register, 10)?;
-    if register > 31 {
-        return None;
-    }
-    Some((register as usize, number(value).ok()?))
 }
 
 fn number(text: &str) -> Result<u32, Problem> {

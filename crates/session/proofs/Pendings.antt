@@ -11,14 +11,14 @@ use Rattle.machine.specs.declared.effects.Effect.TheVariants as effect
 use Rattle.machine.specs.Stops.{stop_row}
 use Rattle.machine.specs.Registers.{value_of}
 use Rattle.machine.specs.Executed.{executed}
-use Rattle.steps.specs.declared.reports.Ending.{Ending}
-use Rattle.steps.specs.declared.reports.Reason.{Reason}
-use Rattle.steps.specs.declared.reports.Reason.TheVariants.{Host, Stopped, Finished, Spent}
-use Rattle.steps.specs.declared.reports.Report.{Report}
-use Rattle.steps.specs.States.{is_idle}
-use Rattle.steps.specs.Model.{Entry, Yard, at, current, gate_at, mapped, some_active}
-use Rattle.steps.specs.Steps.{After, Ran, told, went, rest, halted, hosted, returned_to, gated, called, done, performed, fetched, stepped, on, ran}
-use Rattle.steps.specs.Calls.{Running, run_refused, or_refused, running}
+use Rattle.yard_steps.specs.declared.reports.Ending.{Ending}
+use Rattle.yard_steps.specs.declared.reports.Reason.{Reason}
+use Rattle.yard_steps.specs.declared.reports.Reason.TheVariants.{Host, Stopped, Finished, Spent}
+use Rattle.yard_steps.specs.declared.reports.Report.{Report}
+use Rattle.yard_steps.specs.States.{is_idle}
+use Rattle.yard_steps.specs.Model.{Entry, Yard, at, current, gate_at, mapped, some_active}
+use Rattle.yard_steps.specs.Steps.{After, Ran, told, went, rest, halted, hosted, returned_to, gated, called, done, performed, fetched, stepped, on, ran}
+use Rattle.yard_steps.specs.Calls.{Running, run_refused, or_refused, running}
 use Rattle.yard.specs.declared.pendings.Outcome.{Outcome}
 use Rattle.yard.specs.declared.pendings.Outcome.TheVariants.{Ended, Asked}
 use Rattle.yard.specs.Yards.{answered_by, Tokened}

@@ -4,9 +4,9 @@ use Rattle.std.proofs.lemmas.Slice.{between_to_end}
 use Rattle.std.specs.Borrow.{Bor}
 use Rattle.buffers.specs.declared.Buffers.{Buffers}
 use Rattle.policy.specs.declared.any.AnyPolicy.{AnyPolicy}
-use Rattle.steps.specs.Model.{new_yard}
-use Rattle.script.specs.declared.commands.Command.{Command}
-use Rattle.script.specs.declared.commands.Command.TheVariants as cmd
+use Rattle.yard_steps.specs.Model.{new_yard}
+use Rattle.yard_script.specs.declared.commands.Command.{Command}
+use Rattle.yard_script.specs.declared.commands.Command.TheVariants as cmd
 use Rattle.session.specs.Said.{Said}
 use Rattle.session.specs.Performed.{State, under_yard, answers_of}
 use Rattle.session.specs.Views.{state_of, following}

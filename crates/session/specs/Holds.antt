@@ -4,7 +4,7 @@
 --   reported o       the report of an outcome, its pending call put aside
 use Rattle.std.specs.Prelude.{◌≡◌, Bool, true, false, is_some, Ok, Err, Option, Result}
 use Rattle.refusal.specs.declared.refusals.Refusal.{Refusal}
-use Rattle.steps.specs.declared.reports.Report.{Report}
+use Rattle.yard_steps.specs.declared.reports.Report.{Report}
 use Rattle.yard.specs.declared.pendings.Outcome.{Outcome}
 use Rattle.yard.specs.declared.pendings.Outcome.TheVariants.{Ended, Asked}
 use Rattle.yard.specs.declared.pendings.Pending.{Pending}

@@ -14,10 +14,10 @@ use Rattle.policy.specs.declared.any.AnyPolicy.{AnyPolicy}
 use Rattle.policy.specs.declared.any.AnyPolicy.TheVariants.{Rights, Rings}
 use Rattle.policy.specs.Choice.{any_allows}
 use Rattle.code_check.specs.Verdicts.{checked}
-use Rattle.steps.specs.Model.{Yard, new_yard}
-use Rattle.steps.specs.Calls.{Running, admitted, opened, called_from, running, replied, cut_off, register_of}
-use Rattle.script.specs.declared.commands.Command.{Command}
-use Rattle.script.specs.declared.commands.Command.TheVariants as cmd
+use Rattle.yard_steps.specs.Model.{Yard, new_yard}
+use Rattle.yard_steps.specs.Calls.{Running, admitted, opened, called_from, running, replied, cut_off, register_of}
+use Rattle.yard_script.specs.declared.commands.Command.{Command}
+use Rattle.yard_script.specs.declared.commands.Command.TheVariants as cmd
 use Rattle.session.specs.Said.{Said}
 use Rattle.session.specs.Said as said
 

@@ -5,7 +5,7 @@ use Rattle.std.specs.Prelude.{ℕ, Bool, List, vec_items, Option, Result}
 use Rattle.rv32i.specs.declared.causes.Cause.{Cause}
 use Rattle.rv32i.specs.declared.instructions.Instruction.{Instruction}
 use Rattle.refusal.specs.Told.{told_in}
-use Rattle.steps.specs.declared.reports.Report.{Report}
+use Rattle.yard_steps.specs.declared.reports.Report.{Report}
 use Rattle.session.specs.declared.answers.Answer.{Answer}
 use Rattle.session.specs.declared.answers.Answer.TheVariants as answer
 

@@ -11,10 +11,10 @@ use Rattle.std.specs.Borrow.{Bor}
 use Rattle.buffers.specs.declared.Buffers.{Buffers}
 use Rattle.buffers.specs.Bytes.{bytes_of}
 use Rattle.policy.specs.declared.any.AnyPolicy.{AnyPolicy}
-use Rattle.steps.specs.Model.{Yard, new_yard}
+use Rattle.yard_steps.specs.Model.{Yard, new_yard}
 use Rattle.yard.specs.Yards.{seen}
-use Rattle.script.specs.declared.commands.Command.{Command}
-use Rattle.script.specs.declared.commands.Command.TheVariants as cmd
+use Rattle.yard_script.specs.declared.commands.Command.{Command}
+use Rattle.yard_script.specs.declared.commands.Command.TheVariants as cmd
 use Rattle.session.specs.declared.answers.Answer.{Answer}
 use Rattle.session.specs.declared.performing.Performance.{Performance}
 use Rattle.session.specs.declared.sessions.Session.{Session}

@@ -1,7 +1,7 @@
 use refusal::Refusal;
 use rv32i::{Cause, Instruction};
 use std::fmt;
-use steps::Report;
+use yard_steps::Report;
 
 // What a command answers, if it answers at all.
 #[derive(Drop)]

@@ -1,7 +1,7 @@
 // The commands of a script, one after another. A yard borrows the code store, so the code grows up to the first `yard` and is
 // fixed from there on.
 ghost use Rattle.std.specs.Prelude.{◌≡◌, Bool, true, false, List, ◌∷◌, ◌++◌, map, IfOk, OnOk};
-ghost use Rattle.script.specs.declared.commands.Command.{Command as Line};
+ghost use Rattle.yard_script.specs.declared.commands.Command.{Command as Line};
 ghost use Rattle.session.specs.Said.{plain};
 ghost use Rattle.session.specs.Performed.{no_rights, start, answers_of};
 ghost use Rattle.session.specs.Views.{view, spoken, told, or_yard, following, Aside};
@@ -11,8 +11,8 @@ use crate::sessions::Session;
 use buffers::Buffers;
 use policy::any::AnyPolicy;
 use policy::rights::Rights;
-use script::Command;
 use std::alloc::{AllocError, Global};
+use yard_script::Command;
 
 // What the commands up to the first `yard` have built up and answered, with that yard's memory size and the commands after it.
 #[derive(Drop)]
@@ -97,7 +97,6 @@ impl<'a> Performance<'a> {
     ) -> Result<Option<(u32, &'c [Command])>, AllocError>
         ensures is { IfOk result (λ o. spoken self.new.answers.items ++ following o self.new.session.memory self.new.session.policy code.new.items ≡ told self.old code.old.items false commands.now) }
     {
-        // With the index, since it tells which commands are left.
         for (i, command) in commands.iter().enumerate() {
             if let Some(size) = self.prepare(code, command)? {
                 return Ok(Some((size, &commands[i + 1..])));

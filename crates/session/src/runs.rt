@@ -3,7 +3,7 @@ ghost use Rattle.std.specs.Prelude.{◌≡◌};
 ghost use Rattle.memories.specs.Layout.{counted, woven};
 ghost use Rattle.buffers.specs.Bytes.{bytes_of};
 ghost use Rattle.policy.specs.Choice.{any_allows};
-ghost use Rattle.steps.specs.Calls.{running};
+ghost use Rattle.yard_steps.specs.Calls.{running};
 ghost use Rattle.yard.specs.Yards.{seen, answered_by, Tokened};
 
 use buffers::Buffers;

@@ -1,13 +1,7 @@
-pub mod Below
 pub mod Puts
-pub mod Tables
-pub mod Chains
-pub mod Spares
-pub mod Words
 pub mod Stays
-pub mod Outcomes
+pub mod Tables
+pub mod Spares
+pub mod Chains
 pub mod Kept
 pub mod Fenced
-pub mod Runs
-pub mod Admits
-pub mod Hosts

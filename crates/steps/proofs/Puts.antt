@@ -1,9 +1,12 @@
 -- What a store leaves.
-use Rattle.std.proofs.Common.{◌≡◌, ℕ, ◌+◌, ◌%◌, ◌<◌, ltb, ◌≢◌, List, length, get_or, set, refl, ◌∙◌, arith, length-set, get_or-set_other}
-use Rattle.std.proofs.lemmas.Bool.{cond_both}
+use Rattle.std.proofs.Common.{◌≡◌, ℕ, zero, suc, ◌+◌, ◌%◌, ◌<◌, true, ltb, ◌≢◌, List, [], ◌∷◌, length, get_or, set, refl, ◌∙◌, ⊎_elim, arith, get_or-set_other}
+use Rattle.std.proofs.lemmas.Bool.{cond_both, or_cases}
 use Rattle.machine.specs.declared.widths.Datum.{Datum}
 use Rattle.machine.specs.declared.widths.Datum.TheVariants.{U8, U16, U32}
 use Rattle.machine.specs.Widths.{bytes_of, width_of}
+use Rattle.segment.specs.Guards.{Inside, inside}
+use Rattle.segment.proofs.Bounds.{is_inside}
+use Rattle.steps.specs.Model.{Domain, nobody, mapped}
 use Rattle.steps.specs.Steps.{put_datum}
 
 -- a byte outside the access stays
@@ -25,8 +28,8 @@ put_elsewhere bs a (U32 w) k n =
     (λ _. get_or-set_other _ (a + 3) k _ 0 n3 ∙ (get_or-set_other _ (a + 2) k _ 0 n2 ∙ (get_or-set_other _ (a + 1) k _ 0 n1 ∙ get_or-set_other bs a k _ 0 n0)))
     (λ _. refl)
 
--- a store keeps the size
-pub put_length : (bs : List ℕ) (a : ℕ) (x : Datum) → length (put_datum bs a x) ≡ length bs
-put_length bs a (U8 b) = cond_both (ltb a (length bs)) _ bs (λ l. length l ≡ length bs) (λ _. simp length-set) (λ _. refl)
-put_length bs a (U16 h) = cond_both (ltb (a + 1) (length bs)) _ bs (λ l. length l ≡ length bs) (λ _. simp length-set) (λ _. refl)
-put_length bs a (U32 w) = cond_both (ltb (a + 3) (length bs)) _ bs (λ l. length l ≡ length bs) (λ _. simp length-set) (λ _. refl)
+-- a mapped address lies in some domain's segment
+pub mapped_in : (ds : List Domain) (a : ℕ) → mapped ds a ≡ true → (j : ℕ) × (j < length ds) × Inside (get_or ds j nobody).segment a
+mapped_in [] a e = absurd (let z : ◌≡◌ {A = ℕ} 0 1 = cc in omega arith)
+mapped_in (d ∷ ds) a e =
+    ⊎_elim (λ h. (zero, omega arith, is_inside d.segment a h)) (λ h. let t = mapped_in ds a h in (suc t.0, omega (arith, t.1), t.2)) (or_cases (inside d.segment a) (mapped ds a) e)

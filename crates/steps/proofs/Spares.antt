@@ -3,12 +3,15 @@ use Rattle.std.proofs.Common.{◌≡◌, ℕ, ◌%◌, ◌^◌, ◌<◌, ◌≤�
 use Rattle.segment.specs.Guards.{Inside}
 use Rattle.code_check.specs.Registers.{dedicated}
 use Rattle.machine.specs.Registers.{written}
-use Rattle.domain.specs.Confined.{Domain, InCode, Confined}
+use Rattle.domain.specs.Confined.{Domain, InCode, Pointing, Confined}
 use Rattle.domain.proofs.Writes.{written_length, written_other, apart}
 
 module _ (d : Domain) (xs : List ℕ) (rd v : ℕ) (e : dedicated rd ≡ false) where
   kept : (r : ℕ) → 22 ≤ r → r ≤ 27 → get_or (written xs rd v) r 0 ≡ get_or xs r 0
   kept r lo hi = written_other xs rd v r (apart rd r e lo hi)
+
+  pub spare_pointing : Pointing d xs → Pointing d (written xs rd v)
+  spare_pointing b = (subst (InCode d) (sym (kept 26 (omega arith) (omega arith))) b.0, subst (Inside d.segment) (sym (kept 27 (omega arith) (omega arith))) b.1)
 
   pub spare_confined : (pc : ℕ) → Confined d xs pc → Confined d (written xs rd v) pc
   spare_confined pc h =

@@ -1,108 +1,91 @@
--- A yard whose domains or chain have changed is whole again.
---   standing ws x        where a domain stands over a store: its window and its segment
---   Behind ws pc         pc is right behind an ECALL of the store ws
---   Working s            s is the state of a domain on the chain
---   On cs c              c is on the chain cs
---   Linked y             what holds of a whole yard's chain
---   remade               other domains at the same places, and another chain
---   Fit y c xs pc s cs p what is asked of the registers, pc and state of the domain c, of a new chain and of its pending call
---   put_whole            so the yard with that domain put is whole
-use Rattle.std.proofs.Common.{◌≡◌, ℕ, ◌+◌, ◌<◌, ◌≤◌, Bool, true, ◌⊎◌, List, length, get_or, set, Ok, sym, refl, ◌∙◌, subst, ⊎_elim, arith, length-set, get_or-set_other, get_or-set_same}
+-- A yard with one domain changed, or another chain, is whole again.
+use Rattle.std.proofs.Common.{◌≡◌, ℕ, ◌<◌, ◌≤◌, Bool, List, length, get_or, sym, ap, ◌∙◌, subst, ⊎_elim, length-set, get_or-set_other, get_or-set_same}
 use Rattle.std.proofs.lemmas.Bool.{cases_eq}
-use Rattle.rv32i.specs.declared.instructions.Instruction.TheVariants.{Ecall}
-use Rattle.segment.specs.Guards.{apart, end}
+use Rattle.segment.specs.Guards.{Row, apart, end}
 use Rattle.code_check.specs.Windows.{words_from, Framed}
-use Rattle.machine.specs.Executed.{next_of}
 use Rattle.domain.specs.Confined.{Domain as Placed, Admitted, InCode, Pointing, Confined}
-use Rattle.steps.specs.declared.states.State.{State}
-use Rattle.steps.specs.declared.states.State.TheVariants.{Idle, Active, AtHost}
-use Rattle.steps.specs.Model.{Domain, Yard, nobody, at, put, chained}
-use Rattle.steps.specs.Steps.{fetched}
-use Rattle.steps.specs.Whole.{Whole, placed, at_work, Called}
+use Rattle.steps.specs.declared.states.State.TheVariants.{Idle}
+use Rattle.steps.specs.Model.{Domain, Yard, nobody, at, put}
+use Rattle.steps.specs.Steps.{chained}
+use Rattle.steps.specs.Whole.{Whole, placed}
 
-abbrev pub standing : List ℕ → Domain → Placed
-standing ws x = record { words = words_from ws x.base x.m; base = x.base; m = x.m; segment = x.segment }
+-- where a domain stands is not changed: its window and its segment
+pub record Same (a b : Domain) : Type 0 where
+  pub base : a.base ≡ b.base
+  pub m : a.m ≡ b.m
+  pub segment : a.segment ≡ b.segment
 
-abbrev pub Behind : List ℕ → ℕ → Type 0
-Behind ws pc = (a : ℕ) × (pc ≡ next_of a) × (fetched ws a ≡ Ok Ecall)
+-- what is known of the domain that is put
+pub record Sound (p : Placed) (d : Domain) : Type 0 where
+  pub confined : Confined p d.registers d.pc
+  pub ready : d.state ≡ Idle → Pointing p d.registers
 
-abbrev pub Working : State → Type 0
-Working s = (s ≡ Active) ⊎ (s ≡ AtHost)
+abbrev placed_as : Yard → Domain → Placed
+placed_as y d = record { words = words_from y.store d.base d.m; base = d.base; m = d.m; segment = d.segment }
 
-abbrev pub On : List ℕ → ℕ → Type 0
-On cs c = (n : ℕ) × (n < length cs) × (get_or cs n 0 ≡ c)
+module _ (y : Yard) (W : Whole y) (c : ℕ) (lt : c < length y.domains) (d : Domain) (same : Same d (at y c)) (s : Sound (placed y c) d)
+    (lives : (n : ℕ) → n < length y.chain → get_or y.chain n 0 ≡ c → d.state ≡ Idle → ⊥) where
+  here : at (put y c d) c ≡ d
+  here = get_or-set_same y.domains c d nobody lt
 
-pub record Linked (y : Yard) : Type 0 where
-  pub chained : (n : ℕ) → n < length y.chain → get_or y.chain n 0 < y.count
-  pub works : (n : ℕ) → n < length y.chain → (at y (get_or y.chain n 0)).state ≡ at_work y.pending n
-  pub distinct : (i j : ℕ) → i < length y.chain → j < length y.chain → get_or y.chain i 0 ≡ get_or y.chain j 0 → i ≡ j
-  pub calling : (n : ℕ) → n + 1 < length y.chain → Called y (get_or y.chain (n + 1) 0)
-  pub alone : (c : ℕ) → c < y.count → Working (at y c).state → On y.chain c
-  pub asked : y.pending ≡ true → 0 < length y.chain
+  there : (k : ℕ) → (k ≡ c → ⊥) → at (put y c d) k ≡ at y k
+  there k n = get_or-set_other y.domains c k d nobody n
 
-module _ (y : Yard) (W : Whole y) (ds : List Domain) (cs : List ℕ) (p : Bool) where
-  abbrev other : Yard
-  other = record { store = y.store; size = y.size; domains = ds; count = y.count; gates = y.gates; chain = cs; pending = p }
-
-  pub remade : length ds ≡ 8 → ((k : ℕ) → k < y.count → standing y.store (get_or ds k nobody) ≡ placed y k) →
-      ((k : ℕ) → k < y.count → Confined (placed y k) (get_or ds k nobody).registers (get_or ds k nobody).pc) →
-      ((k : ℕ) → k < y.count → (get_or ds k nobody).state ≡ Idle → Pointing (placed y k) (get_or ds k nobody).registers) → Linked other → Whole other
-  remade long same held ready L = record {
-    eight = long;
-    few = W.few;
-    admitted = λ k l. subst Admitted (sym (same k l)) (W.admitted k l);
-    framed = λ k l. subst (λ (q : Placed). Framed y.store q.base q.m q.words) (sym (same k l)) (W.framed k l);
-    fits = λ k l. subst (λ (q : Placed). end q.segment ≤ y.size) (sym (same k l)) (W.fits k l);
-    spread = λ a b l m n. (λ i. apart (same a l i).segment (same b m i).segment) ∙ W.spread a b l m n;
-    confined = λ k l. subst (λ (q : Placed). Confined q (get_or ds k nobody).registers (get_or ds k nobody).pc) (sym (same k l)) (held k l);
-    ready = λ k l e. subst (λ (q : Placed). Pointing q (get_or ds k nobody).registers) (sym (same k l)) (ready k l e);
-    chained = L.chained;
-    works = L.works;
-    distinct = L.distinct;
-    calling = L.calling;
-    alone = L.alone;
-    asked = L.asked;
-    entries = λ g e h. let t = W.entries g e h in (t.0, subst (λ (q : Placed). InCode q e.pc) (sym (same e.domain t.0)) t.1);
-  }
-
--- own_works, own_calling and own_alone are of the domain c, and works, calling and alone of the others, which are as they were
-pub record Fit (y : Yard) (c : ℕ) (xs : List ℕ) (pc : ℕ) (s : State) (cs : List ℕ) (p : Bool) : Type 0 where
-  pub confined : Confined (placed y c) xs pc
-  pub ready : s ≡ Idle → Pointing (placed y c) xs
-  pub chained : (n : ℕ) → n < length cs → get_or cs n 0 < y.count
-  pub own_works : (n : ℕ) → n < length cs → get_or cs n 0 ≡ c → s ≡ at_work p n
-  pub works : (n : ℕ) → n < length cs → (get_or cs n 0 ≡ c → ⊥) → (at y (get_or cs n 0)).state ≡ at_work p n
-  pub distinct : (i j : ℕ) → i < length cs → j < length cs → get_or cs i 0 ≡ get_or cs j 0 → i ≡ j
-  pub own_calling : (n : ℕ) → n + 1 < length cs → get_or cs (n + 1) 0 ≡ c → Behind y.store pc
-  pub calling : (n : ℕ) → n + 1 < length cs → (get_or cs (n + 1) 0 ≡ c → ⊥) → Called y (get_or cs (n + 1) 0)
-  pub own_alone : Working s → On cs c
-  pub alone : (k : ℕ) → k < y.count → (k ≡ c → ⊥) → Working (at y k).state → On cs k
-  pub asked : p ≡ true → 0 < length cs
-
-module _ (y : Yard) (W : Whole y) (c : ℕ) (lt : c < y.count) (xs : List ℕ) (pc : ℕ) (s : State) (cs : List ℕ) (p : Bool) where
-  abbrev new : Domain
-  new = record { registers = xs; pc = pc; state = s; base = (at y c).base; m = (at y c).m; segment = (at y c).segment }
+  long : length (put y c d).domains ≡ length y.domains
+  long = length-set y.domains c d
 
   -- a fact of each domain, from that of the new one and those of the others
-  each : (P : ℕ → Domain → Type 0) (k : ℕ) → (k ≡ c → P c new) → ((k ≡ c → ⊥) → P k (at y k)) → P k (at (put y c new) k)
-  each P k mine theirs =
-      let inside : c < length y.domains = (let e = W.eight in let f = W.few in omega arith) in
-      ⊎_elim
-      (λ (e : k ≡ c). subst (λ n. P n (at (put y c new) n)) (sym e) (subst (P c) (sym (get_or-set_same y.domains c new nobody inside)) (mine e)))
-      (λ (n : k ≡ c → ⊥). subst (P k) (sym (get_or-set_other y.domains c k new nobody n)) (theirs n))
+  each : (P : Domain → Type 0) → P d → ((k : ℕ) → k < length y.domains → P (at y k)) → (k : ℕ) → k < length (put y c d).domains → P (at (put y c d) k)
+  each P new old k l =
+      ⊎_elim (λ (e : k ≡ c). subst (λ n. P (at (put y c d) n)) (sym e) (subst P (sym here) new))
+      (λ (n : k ≡ c → ⊥). subst P (sym (there k n)) (old k (subst (λ x. k < x) long l)))
       (cases_eq k c)
 
-  pub put_whole : Fit y c xs pc s cs p → Whole (chained (put y c new) cs p)
-  put_whole f =
-      remade y W (set y.domains c new) cs p (length-set y.domains c new ∙ W.eight)
-      (λ k l. each (λ j x. standing y.store x ≡ placed y j) k (λ _. refl) (λ _. refl))
-      (λ k l. each (λ j x. Confined (placed y j) x.registers x.pc) k (λ _. f.confined) (λ _. W.confined k l))
-      (λ k l. each (λ j x. x.state ≡ Idle → Pointing (placed y j) x.registers) k (λ _. f.ready) (λ _. W.ready k l))
-      (record {
-        chained = f.chained;
-        works = λ n l. each (λ j x. x.state ≡ at_work p n) (get_or cs n 0) (f.own_works n l) (f.works n l);
-        distinct = f.distinct;
-        calling = λ n l. each (λ j x. Behind y.store x.pc) (get_or cs (n + 1) 0) (f.own_calling n l) (f.calling n l);
-        alone = λ k l. each (λ j x. Working x.state → On cs j) k (λ _. f.own_alone) (f.alone k l);
-        asked = f.asked;
-      })
+  placed_same : placed_as y d ≡ placed y c
+  placed_same = λ i. record { words = words_from y.store (same.base i) (same.m i); base = same.base i; m = same.m i; segment = same.segment i }
+
+  row_of : (k : ℕ) → (at (put y c d) k).segment ≡ (at y k).segment
+  row_of k =
+      ⊎_elim (λ (e : k ≡ c). subst (λ n. (at (put y c d) n).segment ≡ (at y n).segment) (sym e) (ap (λ (x : Domain). x.segment) here ∙ same.segment))
+      (λ (n : k ≡ c → ⊥). ap (λ (x : Domain). x.segment) (there k n)) (cases_eq k c)
+
+  place_of : (k : ℕ) → placed (put y c d) k ≡ placed y k
+  place_of k =
+      ⊎_elim (λ (e : k ≡ c). subst (λ n. placed (put y c d) n ≡ placed y n) (sym e) (ap (placed_as y) here ∙ placed_same))
+      (λ (n : k ≡ c → ⊥). ap (placed_as y) (there k n)) (cases_eq k c)
+
+  pub put_whole : Whole (put y c d)
+  put_whole = record {
+    few = subst (λ n. n ≤ 8) (sym long) W.few;
+    admitted = λ k l. subst Admitted (sym (place_of k)) (W.admitted k (subst (λ x. k < x) long l));
+    framed = each (λ x. Framed y.store x.base x.m (words_from y.store x.base x.m))
+        (subst (λ (p : Placed). Framed y.store p.base p.m (words_from y.store p.base p.m)) (sym placed_same) (W.framed c lt)) W.framed;
+    fits = each (λ x. end x.segment ≤ y.size) (subst (λ (r : Row). end r ≤ y.size) (sym same.segment) (W.fits c lt)) W.fits;
+    spread = λ a b p q n. (λ i. apart (row_of a i) (row_of b i)) ∙ W.spread a b (subst (λ x. a < x) long p) (subst (λ x. b < x) long q) n;
+    confined = each (λ x. Confined (placed_as y x) x.registers x.pc) (subst (λ p. Confined p d.registers d.pc) (sym placed_same) s.confined) W.confined;
+    ready = each (λ x. x.state ≡ Idle → Pointing (placed_as y x) x.registers) (λ e. subst (λ p. Pointing p d.registers) (sym placed_same) (s.ready e)) W.ready;
+    chained = λ n l. subst (λ x. get_or y.chain n 0 < x) (sym long) (W.chained n l);
+    lively = λ n l e.
+        ⊎_elim (λ (q : get_or y.chain n 0 ≡ c). lives n l q (sym (ap (λ (x : Domain). x.state) here) ∙ (ap (λ k. (at (put y c d) k).state) (sym q) ∙ e)))
+        (λ (q : get_or y.chain n 0 ≡ c → ⊥). W.lively n l (sym (ap (λ (x : Domain). x.state) (there (get_or y.chain n 0) q)) ∙ e))
+        (cases_eq (get_or y.chain n 0) c);
+    distinct = W.distinct;
+    entries = λ g e h. let t = W.entries g e h in (subst (λ x. e.domain < x) (sym long) t.0, subst (λ p. InCode p e.pc) (sym (place_of e.domain)) t.1);
+  }
+
+-- another chain, of domains of the yard
+pub chain_whole : (y : Yard) → Whole y → (cs : List ℕ) (b : Bool) → ((n : ℕ) → n < length cs → get_or cs n 0 < length y.domains) →
+    ((n : ℕ) → n < length cs → (at y (get_or cs n 0)).state ≡ Idle → ⊥) → ((i j : ℕ) → i < length cs → j < length cs → get_or cs i 0 ≡ get_or cs j 0 → i ≡ j) → Whole (chained y cs b)
+chain_whole y W cs b h l u = record {
+  few = W.few;
+  admitted = W.admitted;
+  framed = W.framed;
+  fits = W.fits;
+  spread = W.spread;
+  confined = W.confined;
+  ready = W.ready;
+  chained = h;
+  lively = l;
+  distinct = u;
+  entries = W.entries;
+}

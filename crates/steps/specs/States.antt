@@ -1,7 +1,5 @@
 -- State and event together decide what follows. Assumes nothing.
---   moved s e                            the state after the event e; an event that cannot come in s changes nothing
---   is_idle s, is_active s, is_stopped s    whether s is that state
-use Rattle.std.specs.Prelude.{Bool, true, false}
+--   moved s e   the state after the event e; an event that cannot come in s changes nothing
 use Rattle.steps.specs.declared.states.State.{State}
 use Rattle.steps.specs.declared.states.State.TheVariants.{Idle, Active, AtHost, Stopped}
 use Rattle.steps.specs.declared.states.Event.{Event}
@@ -32,21 +30,3 @@ moved Stopped Reply = Stopped
 moved Stopped Return = Stopped
 moved Stopped Stop = Stopped
 moved Stopped Cut = Stopped
-
-abbrev pub is_idle : State → Bool
-is_idle Idle = true
-is_idle Active = false
-is_idle AtHost = false
-is_idle Stopped = false
-
-abbrev pub is_active : State → Bool
-is_active Idle = false
-is_active Active = true
-is_active AtHost = false
-is_active Stopped = false
-
-abbrev pub is_stopped : State → Bool
-is_stopped Idle = false
-is_stopped Active = false
-is_stopped AtHost = false
-is_stopped Stopped = true

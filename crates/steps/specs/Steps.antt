@@ -1,4 +1,5 @@
 -- One step of a yard, and a run of steps. Assumes nothing.
+--   Ending               why a run ends at a step, of which domain, at which pc, and two numbers
 --   After                the yard and the memory's bytes after a step, and how it ended the run, if it did
 --   went y bs            the run goes on
 --   fetched ws pc        the instruction at pc of the store ws, or the stop
@@ -8,7 +9,7 @@
 --   called A c y bs      what an ECALL of the domain c does
 --   stepped A y bs       one step of the current domain, under the policy A
 --   ran A k n y bs       a run of at most k steps more, after n
-use Rattle.std.specs.Prelude.{ℕ, zero, suc, ◌+◌, ◌/◌, ◌%◌, Bool, true, false, cond, ◌&&◌, List, [], ◌∷◌, Some, None, Ok, Err, Option, Result, ◌==◌, nat_lt, slice_index}
+use Rattle.std.specs.Prelude.{ℕ, zero, suc, ◌+◌, ◌*◌, ◌/◌, ◌%◌, Bool, true, false, cond, ◌&&◌, List, [], ◌∷◌, Some, None, Ok, Err, Option, Result, ◌==◌, nat_lt, slice_index}
 use Rattle.rv32i.specs.declared.operations.LoadOp.{LoadOp}
 use Rattle.rv32i.specs.declared.instructions.Instruction.{Instruction}
 use Rattle.rv32i.specs.Decoded.{Decoding, decoded}
@@ -25,15 +26,23 @@ use Rattle.machine.specs.Stops.{stop_row}
 use Rattle.machine.specs.Registers.{value_of, written}
 use Rattle.machine.specs.Accesses.{load_width, extended}
 use Rattle.machine.specs.Executed.{next_of, executed}
-use Rattle.memory.specs.Bytes.{byte_at, half_at, word_at, byte_put, half_put, word_put}
+use Rattle.memory.specs.Bytes.{byte_put, half_put, word_put}
+use Rattle.steps.specs.declared.states.State.{State}
+use Rattle.steps.specs.declared.states.State.TheVariants.{Idle, Active, AtHost, Stopped}
 use Rattle.steps.specs.declared.states.Event.{Event}
 use Rattle.steps.specs.declared.states.Event.TheVariants as event
 use Rattle.steps.specs.declared.reports.Reason.{Reason}
 use Rattle.steps.specs.declared.reports.Reason.TheVariants as reason
 use Rattle.steps.specs.declared.reports.Report.{Report}
-use Rattle.steps.specs.declared.reports.Ending.{Ending}
-use Rattle.steps.specs.States.{moved, is_idle}
-use Rattle.steps.specs.Model.{Domain, Entry, Yard, at, put, chained, current, gate_at, mapped}
+use Rattle.steps.specs.States.{moved}
+use Rattle.steps.specs.Model.{Domain, Entry, Yard, at, put, gate_at, mapped}
+
+pub record Ending : Type 0 where
+  pub reason : Reason
+  pub domain : ℕ
+  pub pc : ℕ
+  pub first : ℕ
+  pub second : ℕ
 
 pub record After : Type 0 where
   pub yard : Yard
@@ -50,6 +59,9 @@ turned d xs pc = record { registers = xs; pc = pc; state = d.state; base = d.bas
 abbrev pub after : Event → Domain → Domain
 after e d = record { registers = d.registers; pc = d.pc; state = moved d.state e; base = d.base; m = d.m; segment = d.segment }
 
+abbrev pub chained : Yard → List ℕ → Bool → Yard
+chained y cs p = record { store = y.store; size = y.size; domains = y.domains; gates = y.gates; chain = cs; pending = p }
+
 abbrev pub found : ℕ → Decoding → Result Instruction Stop
 found w (Ok i) = Ok i
 found w (Err c) = Err (Illegal w)
@@ -58,16 +70,11 @@ abbrev pub fetched : List ℕ → ℕ → Result Instruction Stop
 fetched ws pc =
     cond (pc % 4 == 0 && nat_lt (pc / 4) (counted ws)) (found (slice_index ws (pc / 4)) (decoded (slice_index ws (pc / 4)))) (Err (Fetch pc))
 
--- what a memory answers, where it is asked within its size
-abbrev pub given : Option ℕ → ℕ
-given (Some n) = n
-given None = 0
-
 -- the number that the bytes from a on hold, the low byte first
 abbrev pub raw : Width → List ℕ → ℕ → ℕ
-raw Byte bs a = given (byte_at bs a)
-raw Half bs a = given (half_at bs a)
-raw Word bs a = given (word_at bs a)
+raw Byte bs a = slice_index bs a
+raw Half bs a = slice_index bs a + slice_index bs (a + 1) * 256
+raw Word bs a = slice_index bs a + slice_index bs (a + 1) * 256 + slice_index bs (a + 2) * 65536 + slice_index bs (a + 3) * 16777216
 
 abbrev pub loaded : LoadOp → List ℕ → ℕ → ℕ
 loaded op bs a = extended op (raw (load_width op) bs a)
@@ -118,26 +125,27 @@ returned_to [] c y bs = record {
 returned_to (k ∷ ks) c y bs =
     went (told (k ∷ ks) (value_of (at y c).registers 10) (value_of (at y c).registers 11) (chained (put y c (after event.Return (behind c y))) (k ∷ ks) false)) bs
 
--- the seven numbers in x10 to x16
-abbrev pub arguments : List ℕ → List ℕ
-arguments xs = value_of xs 10 ∷ value_of xs 11 ∷ value_of xs 12 ∷ value_of xs 13 ∷ value_of xs 14 ∷ value_of xs 15 ∷ value_of xs 16 ∷ []
+-- x10 to x16 of one file put into another
+abbrev pub handed : (from to : List ℕ) → List ℕ
+handed f t =
+    written (written (written (written (written (written (written t 10 (value_of f 10)) 11 (value_of f 11)) 12 (value_of f 12)) 13 (value_of f 13)) 14 (value_of f 14)) 15 (value_of f 15)) 16
+    (value_of f 16)
 
--- seven numbers put into x10 to x16
-abbrev pub handed : (vs xs : List ℕ) → List ℕ
-handed vs xs =
-    written (written (written (written (written (written (written xs 10 (slice_index vs 0)) 11 (slice_index vs 1)) 12 (slice_index vs 2)) 13 (slice_index vs 3)) 14 (slice_index vs 4)) 15 (slice_index vs 5)) 16
-    (slice_index vs 6)
-
--- the domain d entered with seven numbers
 abbrev pub entered : List ℕ → Entry → Domain → Domain
-entered vs e d = after event.Entered (turned d (handed vs d.registers) e.pc)
+entered xs e d = after event.Entered (turned d (handed xs d.registers) e.pc)
+
+abbrev pub is_idle : State → Bool
+is_idle Idle = true
+is_idle Active = false
+is_idle AtHost = false
+is_idle Stopped = false
 
 abbrev pub gated : (ℕ → ℕ → Bool) → Option Entry → (g c : ℕ) → Yard → List ℕ → After
 gated A None g c y bs = halted (NoGate g) c y bs
 gated A (Some e) g c y bs =
     cond (A c g)
     (cond (is_idle (at y e.domain).state)
-    (went (chained (put (put y c (behind c y)) e.domain (entered (arguments (at y c).registers) e (at y e.domain))) (e.domain ∷ y.chain) false) bs)
+    (went (chained (put (put y c (behind c y)) e.domain (entered (at y c).registers e (at y e.domain))) (e.domain ∷ y.chain) false) bs)
     (halted (Busy g) c y bs))
     (halted (Forbidden g) c y bs)
 
@@ -150,8 +158,8 @@ called A c y bs =
 abbrev pub done : (ℕ → ℕ → Bool) → ℕ → Effect → Yard → List ℕ → After
 done A c (effect.Set rd v) y bs = went (put y c (turned (at y c) (written (at y c).registers rd v) (next_of (at y c).pc))) bs
 done A c (effect.Read op rd a) y bs =
-    cond (mapped y a) (went (put y c (turned (at y c) (written (at y c).registers rd (loaded op bs a)) (next_of (at y c).pc))) bs) (halted (Unmapped a) c y bs)
-done A c (effect.Write a x) y bs = cond (mapped y a) (went (put y c (behind c y)) (put_datum bs a x)) (halted (Unmapped a) c y bs)
+    cond (mapped y.domains a) (went (put y c (turned (at y c) (written (at y c).registers rd (loaded op bs a)) (next_of (at y c).pc))) bs) (halted (Unmapped a) c y bs)
+done A c (effect.Write a x) y bs = cond (mapped y.domains a) (went (put y c (behind c y)) (put_datum bs a x)) (halted (Unmapped a) c y bs)
 done A c (effect.Link rd n t) y bs = went (put y c (turned (at y c) (written (at y c).registers rd n) t)) bs
 done A c (effect.Jump t) y bs = went (put y c (turned (at y c) (at y c).registers t)) bs
 done A c effect.Next y bs = went (put y c (behind c y)) bs
@@ -163,7 +171,7 @@ performed A c (Ok i) y bs = done A c (executed i (at y c).registers (at y c).pc)
 performed A c (Err s) y bs = halted s c y bs
 
 abbrev pub stepped : (ℕ → ℕ → Bool) → Yard → List ℕ → After
-stepped A y bs = performed A (current y) (fetched y.store (at y (current y)).pc) y bs
+stepped A y bs = performed A (slice_index y.chain 0) (fetched y.store (at y (slice_index y.chain 0)).pc) y bs
 
 pub record Ran : Type 0 where
   pub report : Report
@@ -172,7 +180,7 @@ pub record Ran : Type 0 where
 
 abbrev pub spent : ℕ → Yard → List ℕ → Ran
 spent n y bs = record {
-  report = record { reason = reason.Spent; count = n; domain = current y; pc = (at y (current y)).pc; first = 0; second = 0 };
+  report = record { reason = reason.Spent; count = n; domain = slice_index y.chain 0; pc = (at y (slice_index y.chain 0)).pc; first = 0; second = 0 };
   yard = y;
   bytes = bs;
 }

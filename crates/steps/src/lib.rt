@@ -1,9 +1,8 @@
 // One step of a yard, as a plain model, and what holds of it: the fence.
 #![tactic(auto)]
 
-mod printing;
 mod reports;
 mod states;
 
-pub use reports::{Ending, Reason, Report};
+pub use reports::{Reason, Report};
 pub use states::{Event, State};

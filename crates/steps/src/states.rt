@@ -1,6 +1,6 @@
 ghost use Rattle.std.specs.Prelude.{◌≡◌};
 ghost use Rattle.steps.specs.States.{moved};
-ghost use Rattle.steps.specs.Fence.{Fence, Kept};
+ghost use Rattle.steps.specs.Fence.{Stays, Executes, Faultless, Crosses, Kept};
 
 #[derive(Clone, Copy)]
 pub enum State {
@@ -26,7 +26,10 @@ impl State {
     // this decides.
     pub fn after(self, event: Event) -> State
         ensures is { result ≡ moved self event }
-        ensures fence { Fence }
+        ensures stays { Stays }
+        ensures executes { Executes }
+        ensures faultless { Faultless }
+        ensures crosses { Crosses }
         ensures kept { Kept }
     {
         self.following(event)

@@ -3,7 +3,7 @@ use Rattle.std.proofs.Common.{◌≡◌, ℕ, ◌+◌, ◌-◌, ◌<◌, List, [
 use Rattle.std.proofs.lemmas.List.{map-append, take_all, take_more, reverse-append}
 use Rattle.std.specs.Prelude.{slice_index, option_map}
 use Rattle.std.specs.Option.{UnwrapsOrElse}
-use Rattle.steps.specs.Steps.{rest}
+use Rattle.yard_steps.specs.Steps.{rest}
 use Rattle.yard.specs.declared.slots.Slot.{Slot}
 use Rattle.yard.specs.Shapes.{number_of, callers, next_in}
 

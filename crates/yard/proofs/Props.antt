@@ -3,8 +3,8 @@ use Rattle.std.proofs.Common.{ℕ, false}
 use mathlib.Core.Bool.{Bool-set}
 use mathlib.Core.HLevel.{Π_prop}
 use native.Mathlib.Bridge.{le_prop}
-use Rattle.steps.specs.States.{is_idle}
-use Rattle.steps.specs.Model.{Yard, at}
+use Rattle.yard_steps.specs.States.{is_idle}
+use Rattle.yard_steps.specs.Model.{Yard, at}
 use Rattle.yard.specs.Views.{Ready}
 use Rattle.yard.specs.Yards.{GoesOn}
 

@@ -1,12 +1,12 @@
 -- A chain has room for a domain that is idle.
 use Rattle.std.proofs.Common.{◌≡◌, ℕ, zero, suc, ◌<◌, ◌≤◌, Bool, true, false, cond, eqb, ◌∷◌, length, get_or, sym, refl, ap, ◌∙◌, subst, ⊎_elim, arith}
 use Rattle.std.proofs.lemmas.Bool.{cond-true, cond-false, eq-eqb, ne_eqb, cases_eq}
-use Rattle.steps.specs.declared.states.State.{State}
-use Rattle.steps.specs.declared.states.State.TheVariants.{Active}
-use Rattle.steps.specs.States.{is_idle}
-use Rattle.steps.specs.Model.{Yard, at, current}
-use Rattle.steps.specs.Whole.{Whole}
-use Rattle.steps.proofs.Chains.{active}
+use Rattle.yard_steps.specs.declared.states.State.{State}
+use Rattle.yard_steps.specs.declared.states.State.TheVariants.{Active}
+use Rattle.yard_steps.specs.States.{is_idle}
+use Rattle.yard_steps.specs.Model.{Yard, at, current}
+use Rattle.yard_steps.specs.Whole.{Whole}
+use Rattle.yard_steps.proofs.Chains.{active}
 use Rattle.yard.specs.Views.{Ready}
 
 -- k + 1 different numbers below n + 1: with the last in the place of n, k different numbers below n

@@ -4,7 +4,7 @@ use lib.Seq.{map-set}
 use Rattle.std.proofs.lemmas.List.{get_or-map}
 use Rattle.std.proofs.lemmas.List.Folds.{list_any_more}
 use Rattle.std.specs.List.{list_any}
-use Rattle.steps.specs.Model.{Domain as DomainModel, Yard, nobody, at, put, any_below}
+use Rattle.yard_steps.specs.Model.{Domain as DomainModel, Yard, nobody, at, put, any_below}
 use Rattle.yard.specs.declared.domains.Domain.{Domain}
 use Rattle.yard.specs.declared.inners.Inner.{Inner}
 use Rattle.yard.specs.Shapes.{shape}

@@ -1,10 +1,10 @@
 -- One turn of a run.
 use Rattle.std.proofs.Common.{◌≡◌, ℕ, zero, suc, ◌+◌, ◌-◌, ◌<◌, Bool, List, Some, None, sym, ap, ◌∙◌, subst, arith}
 use mathlib.Core.Logic.{∥∥₁_map}
-use Rattle.steps.specs.declared.reports.Ending.{Ending}
-use Rattle.steps.specs.Model.{Yard}
-use Rattle.steps.specs.Steps.{After, stepped, on, ran}
-use Rattle.steps.specs.Whole.{Whole}
+use Rattle.yard_steps.specs.declared.reports.Ending.{Ending}
+use Rattle.yard_steps.specs.Model.{Yard}
+use Rattle.yard_steps.specs.Steps.{After, stepped, on, ran}
+use Rattle.yard_steps.specs.Whole.{Whole}
 use Rattle.yard.specs.Views.{afterwards}
 use Rattle.yard.specs.Yards.{counted, ran_to}
 

@@ -6,7 +6,7 @@ use Rattle.std.proofs.lemmas.Bool.Decides.{nat_tests}
 use Rattle.rv32i.specs.Decoded.{Decoding, decoded}
 use Rattle.machine.specs.declared.stops.Stop.TheVariants.{Fetch}
 use Rattle.code_check.specs.Windows.{counted}
-use Rattle.steps.specs.Steps.{found, fetched}
+use Rattle.yard_steps.specs.Steps.{found, fetched}
 
 module _ (ws : List ℕ) (cells : List Decoding) (is : cells ≡ map decoded (take (counted ws) ws)) where
   pub cells_length : length cells ≡ counted ws

@@ -10,7 +10,7 @@ use Rattle.std.specs.Borrow.{Bor}
 use Rattle.rv32i.specs.declared.instructions.Instruction.{Instruction}
 use Rattle.machine.specs.declared.stops.Stop.{Stop}
 use Rattle.segment.specs.Rows.{row}
-use Rattle.steps.specs.Model.{Domain as DomainModel, Entry as EntryModel}
+use Rattle.yard_steps.specs.Model.{Domain as DomainModel, Entry as EntryModel}
 use Rattle.yard.specs.declared.domains.Domain.{Domain}
 use Rattle.yard.specs.declared.entries.Entry.{Entry}
 use Rattle.yard.specs.declared.slots.Slot.{Slot}

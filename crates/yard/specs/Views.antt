@@ -8,11 +8,11 @@
 use Rattle.std.specs.Prelude.{◌≡◌, ℕ, ◌<◌, true, false, List, [], map, length, Ok, Err, Option, Result}
 use Rattle.refusal.specs.declared.refusals.Refusal.{Refusal}
 use Rattle.refusal.specs.Told.{told}
-use Rattle.steps.specs.declared.states.Event.TheVariants as event
-use Rattle.steps.specs.declared.reports.Ending.{Ending}
-use Rattle.steps.specs.States.{is_idle}
-use Rattle.steps.specs.Model.{Domain as DomainModel, Entry as EntryModel, Yard, at}
-use Rattle.steps.specs.Steps.{After, after}
+use Rattle.yard_steps.specs.declared.states.Event.TheVariants as event
+use Rattle.yard_steps.specs.declared.reports.Ending.{Ending}
+use Rattle.yard_steps.specs.States.{is_idle}
+use Rattle.yard_steps.specs.Model.{Domain as DomainModel, Entry as EntryModel, Yard, at}
+use Rattle.yard_steps.specs.Steps.{After, after}
 use Rattle.yard.specs.declared.domains.Domain.{Domain}
 use Rattle.yard.specs.declared.entries.Entry.{Entry}
 use Rattle.yard.specs.declared.inners.Inner.{Inner}

@@ -10,12 +10,12 @@
 use Rattle.std.specs.Prelude.{◌≡◌, ℕ, ◌<◌, false, List, length, Ok, Err, Result}
 use Rattle.refusal.specs.declared.refusals.Refusal.{Refusal}
 use Rattle.refusal.specs.Told.{told}
-use Rattle.steps.specs.declared.reports.Ending.{Ending}
-use Rattle.steps.specs.declared.reports.Report.{Report}
-use Rattle.steps.specs.declared.reports.Reason.TheVariants.{Host}
-use Rattle.steps.specs.Model.{Yard as Plain}
-use Rattle.steps.specs.Steps.{Ran}
-use Rattle.steps.specs.Calls.{Running}
+use Rattle.yard_steps.specs.declared.reports.Ending.{Ending}
+use Rattle.yard_steps.specs.declared.reports.Report.{Report}
+use Rattle.yard_steps.specs.declared.reports.Reason.TheVariants.{Host}
+use Rattle.yard_steps.specs.Model.{Yard as Plain}
+use Rattle.yard_steps.specs.Steps.{Ran}
+use Rattle.yard_steps.specs.Calls.{Running}
 use Rattle.yard.specs.declared.pendings.Outcome.{Outcome}
 use Rattle.yard.specs.declared.pendings.Outcome.TheVariants.{Ended, Asked}
 use Rattle.yard.specs.declared.pendings.Pending.{Pending}

@@ -1,6 +1,6 @@
 // Loads and stores over any memory.
 ghost use Rattle.std.specs.Prelude.{◌≡◌};
-ghost use Rattle.steps.specs.Steps.{loaded, put_datum};
+ghost use Rattle.yard_steps.specs.Steps.{loaded, put_datum};
 
 use machine::{Datum, Width, extend, load_width};
 use memory::Memory;

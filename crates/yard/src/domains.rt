@@ -1,7 +1,7 @@
 ghost use Rattle.std.specs.Prelude.{◌+◌, ◌^◌, ◌≤◌};
 
 use segment::Segment;
-use steps::State;
+use yard_steps::State;
 
 mod changes;
 

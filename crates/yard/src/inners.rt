@@ -9,7 +9,7 @@ use arrayvec::ArrayVec;
 
 mod calls;
 mod parts;
-mod stepping;
+mod steps;
 
 // A yard as it is stored. `Yard` adds what holds of it between two words.
 #[derive(Drop)]

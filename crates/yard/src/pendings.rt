@@ -1,4 +1,4 @@
-use steps::Report;
+use yard_steps::Report;
 
 // A host call that waits for its answer. It cannot be let go: `Yard::reply` takes it, or `Yard::end` with its yard.
 pub struct Pending {

@@ -1,4 +1,4 @@
-ghost use Rattle.steps.specs.Whole.{Whole};
+ghost use Rattle.yard_steps.specs.Whole.{Whole};
 ghost use Rattle.yard.specs.Views.{view};
 
 use crate::inners::Inner;

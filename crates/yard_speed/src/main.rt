@@ -9,8 +9,8 @@ use policy::rights::Rights;
 use refusal::Refusal;
 use std::time::Instant;
 use std::{env, fs};
-use steps::Report;
 use yard::{Outcome, Yard};
+use yard_steps::Report;
 
 // The domain's segment, and the size of the memory.
 const DATA: u32 = 0x2000;
@@ -61,7 +61,7 @@ fn main(rt: HostRuntime) -> anyhow::Result<()> {
         .map(|text| text.parse::<u32>())
         .transpose()?;
     let bytes = fs::read(&rt, path.as_str())?;
-    let words = script::words(heap, bytes.as_slice())?;
+    let words = yard_script::words(heap, bytes.as_slice())?;
     let words = words.context("the file has no whole number of words")?;
     let mut yard = Yard::new(heap, words.as_slice(), SIZE)?;
     let m = window_bits(words.len());

@@ -2,7 +2,7 @@
 #![tactic(auto)]
 
 use anyhow::bail;
-use script::{Command, Fault, Line, Problem};
+use script::{Command, Fault, Line, Problem, Session};
 use std::{env, fs, io};
 
 // The script: the file that the first argument names, or else standard input.
@@ -39,8 +39,12 @@ fn commands(rt: &HostRuntime, text: &str) -> Result<Vec<Command>, Fault> {
 }
 
 fn run(rt: &HostRuntime, commands: Vec<Command>) -> anyhow::Result<()> {
-    for answer in session::perform(rt.alloc(), commands.as_slice())? {
-        rt.println(answer)?;
+    let heap = rt.alloc();
+    let mut session = Session::new(heap);
+    for command in commands {
+        if let Some(answer) = session.perform(heap, command)? {
+            rt.println(answer)?;
+        }
     }
     Ok(())
 }

@@ -2,8 +2,8 @@
 ghost use Rattle.std.specs.Prelude.{◌≡◌, ℕ, Bool, true, List, is_some, IfOk, Some, None, OnOk};
 ghost use Rattle.std.specs.Option.{option_map};
 ghost use Rattle.refusal.specs.Told.{told_in};
-ghost use Rattle.steps.specs.Model.{new_yard};
-ghost use Rattle.script.specs.declared.commands.Command.TheVariants as cmd;
+ghost use Rattle.yard_steps.specs.Model.{new_yard};
+ghost use Rattle.yard_script.specs.declared.commands.Command.TheVariants as cmd;
 ghost use Rattle.session.specs.Said.{plain};
 ghost use Rattle.session.specs.Said as said;
 ghost use Rattle.session.specs.Performed.{performed, under_yard};
@@ -21,10 +21,10 @@ use policy::rights::Rights;
 use policy::rings::Rings;
 use refusal::Refusal;
 use rv32i::{decode, encode};
-use script::Command;
 use std::alloc::{AllocError, Global};
-use steps::Report;
 use yard::{Outcome, Pending, Yard};
+use yard_script::Command;
+use yard_steps::Report;
 
 impl<'a> Session<'a> {
     pub(crate) fn new(

@@ -1,6 +1,6 @@
 ghost use Rattle.std.specs.Prelude.{◌≡◌, map, IfOk};
 ghost use Rattle.rv32i.specs.Decoded.{decoded};
-ghost use Rattle.steps.specs.Steps.{fetched};
+ghost use Rattle.yard_steps.specs.Steps.{fetched};
 ghost use Rattle.yard.specs.Shapes.{pointed};
 
 use crate::codes::Code;

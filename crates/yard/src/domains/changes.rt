@@ -3,17 +3,17 @@ ghost use Rattle.machine.specs.Registers.{value_of, written};
 ghost use Rattle.machine.specs.Executed.{next_of, executed};
 ghost use Rattle.segment.specs.Guards.{inside};
 ghost use Rattle.segment.specs.Rows.{row};
-ghost use Rattle.steps.specs.States.{is_idle, is_active, is_stopped};
-ghost use Rattle.steps.specs.Model.{nobody};
-ghost use Rattle.steps.specs.Steps.{turned, after, arguments, handed};
-ghost use Rattle.steps.specs.Calls.{fresh, answered};
+ghost use Rattle.yard_steps.specs.States.{is_idle, is_active, is_stopped};
+ghost use Rattle.yard_steps.specs.Model.{nobody};
+ghost use Rattle.yard_steps.specs.Steps.{turned, after, arguments, handed};
+ghost use Rattle.yard_steps.specs.Calls.{fresh, answered};
 ghost use Rattle.yard.specs.Shapes.{shape};
 
 use crate::domains::Domain;
 use machine::{Effect, execute, next_pc, register, set_register};
 use rv32i::Instruction;
 use segment::Segment;
-use steps::{Event, State};
+use yard_steps::{Event, State};
 
 impl Domain {
     // What stands in the table where no domain is.

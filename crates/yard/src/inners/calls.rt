@@ -1,8 +1,8 @@
 // The calls of a yard, before what they keep.
 ghost use Rattle.std.specs.Prelude.{◌≡◌, ◌<◌, Some};
 ghost use Rattle.refusal.specs.Told.{told_in};
-ghost use Rattle.steps.specs.Model.{at};
-ghost use Rattle.steps.specs.Calls.{gate_fits, admission, admitted, opened, through_gate, called_from, replied, cut_off, register_of};
+ghost use Rattle.yard_steps.specs.Model.{at};
+ghost use Rattle.yard_steps.specs.Calls.{gate_fits, admission, admitted, opened, through_gate, called_from, replied, cut_off, register_of};
 ghost use Rattle.yard.specs.Views.{view, lead_to, shaped_in};
 
 use crate::domains::Domain;

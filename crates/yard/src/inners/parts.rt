@@ -2,9 +2,9 @@
 ghost use Rattle.std.specs.Prelude.{◌≡◌, ◌<◌, false, [], ◌∷◌, map, take, length, option_map, IfOk};
 ghost use Rattle.segment.specs.Rows.{row};
 ghost use Rattle.machine.specs.Registers.{written};
-ghost use Rattle.steps.specs.Model.{new_yard, at, put, chained, current, gate_at, mapped, some_active};
-ghost use Rattle.steps.specs.Steps.{turned, after, fetched, behind, entered, rest};
-ghost use Rattle.steps.specs.Calls.{near, with_domain, with_entry, answered};
+ghost use Rattle.yard_steps.specs.Model.{new_yard, at, put, chained, current, gate_at, mapped, some_active};
+ghost use Rattle.yard_steps.specs.Steps.{turned, after, fetched, behind, entered, rest};
+ghost use Rattle.yard_steps.specs.Calls.{near, with_domain, with_entry, answered};
 ghost use Rattle.yard.specs.Shapes.{shape, lead, number_of, callers, next_in, pointed};
 ghost use Rattle.yard.specs.Views.{view, lead_to, without_active};
 
@@ -18,7 +18,7 @@ use machine::Stop;
 use rv32i::Instruction;
 use segment::Segment;
 use std::alloc::{AllocError, Global};
-use steps::Event;
+use yard_steps::Event;
 
 // The last of a chain, if there is one.
 fn last(chain: &ArrayVec<Slot, 8>) -> Option<Slot>

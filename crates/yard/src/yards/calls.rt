@@ -1,8 +1,8 @@
 ghost use Rattle.std.specs.Prelude.{◌≡◌, IfOk};
 ghost use Rattle.refusal.specs.Told.{told_in};
 ghost use Rattle.code_check.specs.Verdicts.{checked};
-ghost use Rattle.steps.specs.Model.{new_yard};
-ghost use Rattle.steps.specs.Calls.{admitted, opened, called_from, replied, cut_off, register_of};
+ghost use Rattle.yard_steps.specs.Model.{new_yard};
+ghost use Rattle.yard_steps.specs.Calls.{admitted, opened, called_from, replied, cut_off, register_of};
 ghost use Rattle.yard.specs.Yards.{seen, told_back};
 
 use crate::inners::Inner;

@@ -1,7 +1,7 @@
 ghost use Rattle.std.specs.Prelude.{◌≡◌, ℕ, ◌<◌, Bool, false, List, length, None, Ok};
-ghost use Rattle.steps.specs.Calls.{run_refused, running};
-ghost use Rattle.steps.specs.Fence.{FencedRun};
-ghost use Rattle.steps.specs.Steps.{stepped, spent, ran};
+ghost use Rattle.yard_steps.specs.Calls.{run_refused, running};
+ghost use Rattle.yard_steps.specs.Fence.{FencedRun};
+ghost use Rattle.yard_steps.specs.Steps.{stepped, spent, ran};
 ghost use Rattle.yard.specs.Views.{afterwards};
 ghost use Rattle.yard.specs.Yards.{seen, GoesOn, ran_to, counted, answered_by, report_in, Tokened};
 
@@ -10,7 +10,7 @@ use crate::yards::Yard;
 use memory::Memory;
 use policy::Policy;
 use refusal::Refusal;
-use steps::{Ending, Reason, Report};
+use yard_steps::{Ending, Reason, Report};
 
 impl<'a> Yard<'a> {
     // The current domain runs, and whoever it calls, until it asks the host, stops, finishes, or has spent the budget.

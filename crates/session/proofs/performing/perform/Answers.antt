@@ -1,5 +1,5 @@
 use Rattle.std.proofs.Common.{true, ◌++◌, vec_items, ap, ◌∙◌}
-use Rattle.steps.specs.Model.{new_yard}
+use Rattle.yard_steps.specs.Model.{new_yard}
 use Rattle.session.specs.Performed.{State, answers_of}
 use Rattle.session.specs.Views.{state_of, spoken}
 use Rattle.session.proofs.Sayings.{then_under}

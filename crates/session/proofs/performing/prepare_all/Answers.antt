@@ -1,7 +1,7 @@
 use Rattle.std.proofs.Common.{◌≡◌, ℕ, false, List, [], ◌++◌, vec_items, ◌∙◌}
 use Rattle.memories.specs.Layout.{counted}
 use Rattle.policy.specs.declared.any.AnyPolicy.{AnyPolicy}
-use Rattle.steps.specs.Model.{new_yard}
+use Rattle.yard_steps.specs.Model.{new_yard}
 use Rattle.session.specs.Performed.{State, start, answers_of}
 use Rattle.session.specs.Views.{view, spoken}
 use Rattle.session.proofs.performing.prepare_all.Goals as goal

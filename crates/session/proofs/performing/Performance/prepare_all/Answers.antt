@@ -1,5 +1,5 @@
 use Rattle.std.proofs.Common.{◌≡◌, ℕ, ◌+◌, false, List, ◌∷◌, ◌++◌, vec_items, Some, Option, ap, ◌∙◌, subst}
-use Rattle.script.specs.declared.commands.Command.{Command}
+use Rattle.yard_script.specs.declared.commands.Command.{Command}
 use Rattle.session.specs.Performed.{answers_of}
 use Rattle.session.specs.Views.{view, spoken, told, or_yard}
 use Rattle.session.proofs.Sayings.{loop_more, from_place}

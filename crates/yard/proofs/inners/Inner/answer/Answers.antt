@@ -1,5 +1,5 @@
 use Rattle.std.proofs.Common.{arith}
-use Rattle.steps.specs.Calls.{answered}
+use Rattle.yard_steps.specs.Calls.{answered}
 use Rattle.yard.proofs.Rows.{changed}
 use Rattle.yard.proofs.inners.Inner.answer.Goals as goal
 

@@ -1,6 +1,6 @@
 use Rattle.std.proofs.Common.{sym, refl, ap, ◌∙◌}
 use Rattle.machine.specs.declared.effects.Effect.{Effect}
-use Rattle.steps.specs.Steps.{done}
+use Rattle.yard_steps.specs.Steps.{done}
 use Rattle.yard.specs.Views.{view}
 use Rattle.yard.proofs.inners.Inner.apply.Goals as goal
 

@@ -1,7 +1,7 @@
 use Rattle.std.proofs.Common.{sym, ap, ◌∙◌}
 use Rattle.std.proofs.lemmas.Bool.{cond-true, cond-false}
-use Rattle.steps.specs.States.{is_idle}
-use Rattle.steps.specs.Model.{Domain}
+use Rattle.yard_steps.specs.States.{is_idle}
+use Rattle.yard_steps.specs.Model.{Domain}
 use Rattle.yard.proofs.inners.Inner.call_entry.Goals as goal
 
 pub returns-then-not-allows : goal.returns-then-not-allows

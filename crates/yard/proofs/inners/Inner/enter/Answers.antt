@@ -1,6 +1,6 @@
 use Rattle.std.proofs.Common.{arith}
-use Rattle.steps.specs.declared.states.Event.TheVariants.{Entered}
-use Rattle.steps.specs.Steps.{turned, after, handed}
+use Rattle.yard_steps.specs.declared.states.Event.TheVariants.{Entered}
+use Rattle.yard_steps.specs.Steps.{turned, after, handed}
 use Rattle.yard.proofs.Rows.{changed}
 use Rattle.yard.proofs.inners.Inner.enter.Goals as goal
 

@@ -1,7 +1,7 @@
 use Rattle.std.proofs.Common.{ap, ◌∙◌, arith}
 use Rattle.std.proofs.lemmas.List.{length-map}
 use Rattle.machine.specs.Registers.{value_of}
-use Rattle.steps.specs.Model.{Domain}
+use Rattle.yard_steps.specs.Model.{Domain}
 use Rattle.yard.specs.Shapes.{lead}
 use Rattle.yard.specs.Views.{view}
 use Rattle.yard.proofs.Turns.{to_host, to_gate}

@@ -1,7 +1,7 @@
 use Rattle.std.proofs.Common.{◌∙◌, take, rules, tests, arith}
 use Rattle.std.proofs.lemmas.Iterator.{YieldsList-from_slice}
 use Rattle.std.proofs.lemmas.Iterator.Search.{any_from_yields_List}
-use Rattle.steps.specs.States.{is_active}
+use Rattle.yard_steps.specs.States.{is_active}
 use Rattle.yard.specs.declared.domains.Domain.{Domain}
 use Rattle.yard.proofs.Rows.{any_row}
 use Rattle.yard.proofs.inners.Inner.has_active.Goals as goal

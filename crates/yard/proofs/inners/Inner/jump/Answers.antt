@@ -1,5 +1,5 @@
 use Rattle.std.proofs.Common.{arith}
-use Rattle.steps.specs.Steps.{turned}
+use Rattle.yard_steps.specs.Steps.{turned}
 use Rattle.yard.proofs.Rows.{changed}
 use Rattle.yard.proofs.inners.Inner.jump.Goals as goal
 

@@ -1,6 +1,6 @@
 use Rattle.std.proofs.Common.{arith}
 use Rattle.machine.specs.Executed.{next_of}
-use Rattle.steps.specs.Steps.{turned, after}
+use Rattle.yard_steps.specs.Steps.{turned, after}
 use Rattle.yard.proofs.Rows.{changed}
 use Rattle.yard.proofs.inners.Inner.leave.Goals as goal
 

@@ -1,5 +1,5 @@
 use Rattle.std.proofs.Common.{ap, ◌∙◌, false, arith}
-use Rattle.steps.specs.Model.{chained}
+use Rattle.yard_steps.specs.Model.{chained}
 use Rattle.yard.specs.Shapes.{callers}
 use Rattle.yard.specs.Views.{view}
 use Rattle.yard.proofs.Links.{without_last, next_or}

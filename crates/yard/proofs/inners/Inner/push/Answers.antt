@@ -1,7 +1,7 @@
 use Rattle.std.proofs.Common.{sym, ap, ◌∙◌, false, map, arith}
 use Rattle.std.proofs.lemmas.List.{length-reverse, length-map}
 use Rattle.std.specs.Prelude.{slice_index}
-use Rattle.steps.specs.Model.{chained}
+use Rattle.yard_steps.specs.Model.{chained}
 use Rattle.yard.specs.Shapes.{number_of, callers}
 use Rattle.yard.specs.Views.{view}
 use Rattle.yard.proofs.Links.{one_more}

@@ -1,6 +1,6 @@
 use Rattle.std.proofs.Common.{List, Option, Some, ap}
 use Rattle.std.proofs.lemmas.List.{map-set}
-use Rattle.steps.specs.Model.{Entry}
+use Rattle.yard_steps.specs.Model.{Entry}
 use Rattle.yard.specs.Shapes.{lead}
 use Rattle.yard.specs.Views.{view}
 use Rattle.yard.proofs.inners.Inner.set_gate.Goals as goal

@@ -1,5 +1,5 @@
 use Rattle.std.proofs.Common.{refl, ap, ◌∙◌}
-use Rattle.steps.specs.Model.{Domain}
+use Rattle.yard_steps.specs.Model.{Domain}
 use Rattle.yard.specs.Views.{view}
 use Rattle.yard.proofs.Turns.{fetch_stops}
 use Rattle.yard.proofs.inners.Inner.step.Goals as goal

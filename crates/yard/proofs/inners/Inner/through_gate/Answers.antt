@@ -1,6 +1,6 @@
 use Rattle.std.proofs.Common.{Option, ap, ◌∙◌}
-use Rattle.steps.specs.Model.{Entry}
-use Rattle.steps.specs.Steps.{gated}
+use Rattle.yard_steps.specs.Model.{Entry}
+use Rattle.yard_steps.specs.Steps.{gated}
 use Rattle.yard.specs.Views.{view}
 use Rattle.yard.proofs.inners.Inner.through_gate.Goals as goal
 

@@ -1,6 +1,6 @@
 use Rattle.std.proofs.Common.{arith}
 use Rattle.machine.specs.Registers.{written}
-use Rattle.steps.specs.Steps.{turned}
+use Rattle.yard_steps.specs.Steps.{turned}
 use Rattle.yard.proofs.Rows.{changed}
 use Rattle.yard.proofs.inners.Inner.write.Goals as goal
 

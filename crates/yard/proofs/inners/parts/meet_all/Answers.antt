@@ -2,7 +2,7 @@ use Rattle.std.proofs.Common.{◌++◌, map, take, set, sym, refl, ap, ◌∙◌
 use lib.Seq.{map-set}
 use Rattle.std.proofs.lemmas.List.Edits.{map_over_more}
 use Rattle.std.proofs.lemmas.List.{get_or-map, length-map, take_all, drop_all}
-use Rattle.steps.specs.Steps.{after}
+use Rattle.yard_steps.specs.Steps.{after}
 use Rattle.yard.specs.Shapes.{shape}
 use Rattle.yard.proofs.inners.parts.meet_all.Goals as goal
 

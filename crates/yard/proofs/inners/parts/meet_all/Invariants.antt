@@ -1,5 +1,5 @@
 use Rattle.std.proofs.Common.{◌≡◌, ◌++◌, map, length, take, drop}
-use Rattle.steps.specs.Steps.{after}
+use Rattle.yard_steps.specs.Steps.{after}
 use Rattle.yard.specs.Shapes.{shape}
 use Rattle.yard.proofs.inners.parts.meet_all.Given as goal
 

@@ -1,5 +1,5 @@
 use Rattle.std.proofs.Common.{arith}
-use Rattle.steps.proofs.Hosts.{admitted_whole}
+use Rattle.yard_steps.proofs.Hosts.{admitted_whole}
 use Rattle.yard.specs.Views.{view}
 use Rattle.yard.proofs.Running.{left_whole}
 use Rattle.yard.proofs.yards.Yard.admit.Goals as goal

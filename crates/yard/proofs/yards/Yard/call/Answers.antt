@@ -1,4 +1,4 @@
-use Rattle.steps.proofs.Hosts.{called_whole}
+use Rattle.yard_steps.proofs.Hosts.{called_whole}
 use Rattle.yard.specs.Views.{view}
 use Rattle.yard.proofs.Running.{left_whole}
 use Rattle.yard.proofs.yards.Yard.call.Goals as goal

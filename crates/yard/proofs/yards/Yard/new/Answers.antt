@@ -1,6 +1,6 @@
 use Rattle.std.proofs.Common.{sym, subst}
-use Rattle.steps.specs.Whole.{Whole}
-use Rattle.steps.proofs.Hosts.{new_whole}
+use Rattle.yard_steps.specs.Whole.{Whole}
+use Rattle.yard_steps.proofs.Hosts.{new_whole}
 use Rattle.yard.proofs.yards.Yard.new.Goals as goal
 
 pub invariant_of-result : goal.invariant_of-result

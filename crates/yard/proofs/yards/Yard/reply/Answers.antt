@@ -1,4 +1,4 @@
-use Rattle.steps.proofs.Hosts.{replied_whole}
+use Rattle.yard_steps.proofs.Hosts.{replied_whole}
 use Rattle.yard.specs.Views.{view}
 use Rattle.yard.proofs.Running.{left_whole}
 use Rattle.yard.proofs.yards.Yard.reply.Goals as goal

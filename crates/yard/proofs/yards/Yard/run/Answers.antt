@@ -1,11 +1,11 @@
 use Rattle.std.proofs.Common.{None, Ok, Option, sym, refl, ap, ◌∙◌}
 use mathlib.Core.Logic.{∥∥₁_map, ∥∥₁_elim}
 use Rattle.refusal.specs.declared.refusals.Refusal.{Refusal}
-use Rattle.steps.specs.declared.reports.Report.{Report}
-use Rattle.steps.specs.Steps.{Ran, ran}
-use Rattle.steps.specs.Calls.{Running, or_refused}
-use Rattle.steps.proofs.Fenced.{fence}
-use Rattle.steps.proofs.Runs.{runnable}
+use Rattle.yard_steps.specs.declared.reports.Report.{Report}
+use Rattle.yard_steps.specs.Steps.{Ran, ran}
+use Rattle.yard_steps.specs.Calls.{Running, or_refused}
+use Rattle.yard_steps.proofs.Fenced.{fence}
+use Rattle.yard_steps.proofs.Runs.{runnable}
 use Rattle.yard.specs.Yards.{seen}
 use Rattle.yard.proofs.Props.{goes_prop}
 use Rattle.yard.proofs.yards.Yard.run.Goals as goal

@@ -1,6 +1,6 @@
 use Rattle.std.proofs.Common.{◌≡◌, ◌-◌, ap, ◌∙◌, arith}
-use Rattle.steps.specs.declared.reports.Report.{Report}
-use Rattle.steps.specs.Steps.{ran}
+use Rattle.yard_steps.specs.declared.reports.Report.{Report}
+use Rattle.yard_steps.specs.Steps.{ran}
 use Rattle.yard.specs.Yards.{seen, ran_to}
 use Rattle.yard.proofs.Running.{going, ending}
 use Rattle.yard.proofs.yards.Yard.run_on.Goals as goal

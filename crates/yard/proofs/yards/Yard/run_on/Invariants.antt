@@ -1,5 +1,5 @@
 use Rattle.std.proofs.Common.{◌≡◌, ◌-◌, ◌≤◌}
-use Rattle.steps.specs.Steps.{ran}
+use Rattle.yard_steps.specs.Steps.{ran}
 use Rattle.yard.specs.Yards.{seen, GoesOn}
 use Rattle.yard.proofs.yards.Yard.run_on.Given as goal
 

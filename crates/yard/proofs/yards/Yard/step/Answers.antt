@@ -1,9 +1,9 @@
 use Rattle.std.proofs.Common.{sym, ap, ◌∙◌, subst}
 use mathlib.Core.Logic.{∥∥₁_map, ∥∥₁_elim}
-use Rattle.steps.specs.Steps.{After}
-use Rattle.steps.specs.Whole.{Whole}
-use Rattle.steps.proofs.Kept.{kept}
-use Rattle.steps.proofs.Outcomes.{outcome}
+use Rattle.yard_steps.specs.Steps.{After}
+use Rattle.yard_steps.specs.Whole.{Whole}
+use Rattle.yard_steps.proofs.Kept.{kept}
+use Rattle.yard_steps.proofs.Outcomes.{outcome}
 use Rattle.yard.specs.Views.{view}
 use Rattle.yard.specs.Yards.{GoesOn}
 use Rattle.yard.proofs.Room.{ready}

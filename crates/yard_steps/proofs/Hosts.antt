@@ -5,20 +5,20 @@ use Rattle.std.proofs.lemmas.Bool.{cond_both, cases_eq, cases_lt, and_parts, eqb
 use Rattle.machine.specs.Registers.{written}
 use Rattle.domain.specs.Confined.{InCode, Pointing, Confined}
 use Rattle.domain.proofs.Places.{quad}
-use Rattle.steps.specs.declared.states.State.{State}
-use Rattle.steps.specs.declared.states.State.TheVariants.{Idle, Active, AtHost, Stopped}
-use Rattle.steps.specs.declared.states.Event.TheVariants as event
-use Rattle.steps.specs.States.{moved, is_active, is_stopped}
-use Rattle.steps.specs.Model.{Domain, Entry, Yard, nobody, new_yard, at, put, chained, current, gate_at, some_active}
-use Rattle.steps.specs.Steps.{after, entered}
-use Rattle.steps.specs.Calls.{gate_fits, with_entry, offset_fits, opened, through_gate, called_from, replied, cut_off}
-use Rattle.steps.specs.Whole.{Whole, placed, at_work}
-use Rattle.steps.proofs.Below.{none_below}
-use Rattle.steps.proofs.Tables.{standing, Working, remade}
-use Rattle.steps.proofs.Chains.{idle_no_work, stopped_no_work, active, head_whole, enter_whole}
-use Rattle.steps.proofs.Spares.{spare_confined}
-use Rattle.steps.proofs.Outcomes.{some_same}
-pub use Rattle.steps.proofs.Admits.{admitted_whole}
+use Rattle.yard_steps.specs.declared.states.State.{State}
+use Rattle.yard_steps.specs.declared.states.State.TheVariants.{Idle, Active, AtHost, Stopped}
+use Rattle.yard_steps.specs.declared.states.Event.TheVariants as event
+use Rattle.yard_steps.specs.States.{moved, is_active, is_stopped}
+use Rattle.yard_steps.specs.Model.{Domain, Entry, Yard, nobody, new_yard, at, put, chained, current, gate_at, some_active}
+use Rattle.yard_steps.specs.Steps.{after, entered}
+use Rattle.yard_steps.specs.Calls.{gate_fits, with_entry, offset_fits, opened, through_gate, called_from, replied, cut_off}
+use Rattle.yard_steps.specs.Whole.{Whole, placed, at_work}
+use Rattle.yard_steps.proofs.Below.{none_below}
+use Rattle.yard_steps.proofs.Tables.{standing, Working, remade}
+use Rattle.yard_steps.proofs.Chains.{idle_no_work, stopped_no_work, active, head_whole, enter_whole}
+use Rattle.yard_steps.proofs.Spares.{spare_confined}
+use Rattle.yard_steps.proofs.Outcomes.{some_same}
+pub use Rattle.yard_steps.proofs.Admits.{admitted_whole}
 
 -- a new yard
 

@@ -3,8 +3,8 @@ ghost use Rattle.std.specs.Prelude.{◌≡◌, ℕ, ◌<◌, Bool, false, List, 
 ghost use Rattle.machine.specs.Registers.{value_of};
 ghost use Rattle.machine.specs.Stops.{stop_row};
 ghost use Rattle.machine.specs.declared.effects.Effect.TheVariants as effect;
-ghost use Rattle.steps.specs.Model.{at, chained, current, gate_at};
-ghost use Rattle.steps.specs.Steps.{told, rest, ending, halted, hosted, returned_to, gated, called, done, stepped};
+ghost use Rattle.yard_steps.specs.Model.{at, chained, current, gate_at};
+ghost use Rattle.yard_steps.specs.Steps.{told, rest, ending, halted, hosted, returned_to, gated, called, done, stepped};
 ghost use Rattle.yard.specs.Views.{view, lead_to, Ready, afterwards};
 
 use crate::accesses::{load, store};
@@ -15,7 +15,7 @@ use machine::{Datum, Effect, Stop, next_pc};
 use memory::Memory;
 use policy::Policy;
 use rv32i::LoadOp;
-use steps::{Ending, Event, Reason};
+use yard_steps::{Ending, Event, Reason};
 
 // `Ready`, which five functions ask for, follows from the invariant of `Yard`. That invariant does not hold in the middle of a
 // step, so that no type of this layer has it.

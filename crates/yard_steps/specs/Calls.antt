@@ -24,12 +24,12 @@ use Rattle.code_check.specs.Windows.{windowed}
 use Rattle.code_check.specs.Verdicts.{and_then, checked}
 use Rattle.machine.specs.Registers.{value_of, written}
 use Rattle.domain.specs.Confined.{started}
-use Rattle.steps.specs.declared.states.State.TheVariants.{Idle}
-use Rattle.steps.specs.declared.states.Event.TheVariants as event
-use Rattle.steps.specs.declared.reports.Report.{Report}
-use Rattle.steps.specs.States.{is_stopped}
-use Rattle.steps.specs.Model.{Domain, Entry, Yard, at, put, chained, current, gate_at, any_below, some_active}
-use Rattle.steps.specs.Steps.{Ran, turned, after, entered, ran}
+use Rattle.yard_steps.specs.declared.states.State.TheVariants.{Idle}
+use Rattle.yard_steps.specs.declared.states.Event.TheVariants as event
+use Rattle.yard_steps.specs.declared.reports.Report.{Report}
+use Rattle.yard_steps.specs.States.{is_stopped}
+use Rattle.yard_steps.specs.Model.{Domain, Entry, Yard, at, put, chained, current, gate_at, any_below, some_active}
+use Rattle.yard_steps.specs.Steps.{Ran, turned, after, entered, ran}
 
 abbrev pub refusing : {T : Type 0} → Bool → Refusal → Yard → Yard × Result T (List ℕ) → Yard × Result T (List ℕ)
 refusing b r y x = cond b (y, Err (told r)) x

@@ -1,7 +1,7 @@
 -- A test of the numbers below another.
 use Rattle.std.proofs.Common.{◌≡◌, ℕ, zero, suc, ◌<◌, ◌≤◌, Bool, true, false, refl, subst, ⊎_elim, arith}
 use Rattle.std.proofs.lemmas.Bool.{cases_lt, or_cases, or_parts, both_ways}
-use Rattle.steps.specs.Model.{any_below}
+use Rattle.yard_steps.specs.Model.{any_below}
 
 -- one that passes
 pub one_below : (n : ℕ) (f : ℕ → Bool) → any_below n f ≡ true → (j : ℕ) × (j < n) × (f j ≡ true)

@@ -20,9 +20,9 @@ use Rattle.machine.specs.Accesses.{load_width, store_width}
 use Rattle.machine.specs.Executed.{linked, branched, loads, stores, executed}
 use Rattle.domain.specs.Confined.{place_of}
 use Rattle.domain.proofs.Places.{quad, place_lt, place_is}
-use Rattle.steps.specs.Model.{Yard, at}
-use Rattle.steps.specs.Steps.{found, fetched}
-use Rattle.steps.specs.Whole.{Whole, placed}
+use Rattle.yard_steps.specs.Model.{Yard, at}
+use Rattle.yard_steps.specs.Steps.{found, fetched}
+use Rattle.yard_steps.specs.Whole.{Whole, placed}
 
 module _ (y : Yard) (W : Whole y) (c : ℕ) (lt : c < y.count) where
   -- the word at the pc is that of the window

@@ -14,21 +14,21 @@ use Rattle.machine.specs.Executed.{next_of, executed}
 use Rattle.machine.proofs.Multiples.{executed_aligned}
 use Rattle.domain.specs.Confined.{InCode, Pointing, Confined, Possible, Fine}
 use Rattle.domain.proofs.Steps.{confined}
-use Rattle.steps.specs.declared.states.State.{State}
-use Rattle.steps.specs.declared.states.State.TheVariants.{Idle, Active, AtHost, Stopped}
-use Rattle.steps.specs.declared.states.Event.TheVariants as event
-use Rattle.steps.specs.declared.reports.Reason.TheVariants as reason
-use Rattle.steps.specs.declared.reports.Ending.{Ending}
-use Rattle.steps.specs.States.{moved, is_idle}
-use Rattle.steps.specs.Model.{Domain, Entry, Yard, nobody, at, put, chained, current, gate_at, mapped}
-use Rattle.steps.specs.Steps.{After, went, turned, after, fetched, put_datum, told, rest, behind, halted, hosted, arguments, entered, returned_to, gated, called, done, performed, stepped}
-use Rattle.steps.specs.Whole.{Whole, placed}
-use Rattle.steps.specs.Fence.{Stays, Crosses, Faultless, moment_of}
-use Rattle.steps.proofs.Tables.{standing}
-use Rattle.steps.proofs.Chains.{stopped_no_work, idle_no_work, active, rest_at, head_whole, turn_whole, leave_whole, told_whole, enter_whole}
-use Rattle.steps.proofs.Puts.{put_length}
-use Rattle.steps.proofs.Words.{own_word, call_word}
-use Rattle.steps.proofs.Stays.{wrote}
+use Rattle.yard_steps.specs.declared.states.State.{State}
+use Rattle.yard_steps.specs.declared.states.State.TheVariants.{Idle, Active, AtHost, Stopped}
+use Rattle.yard_steps.specs.declared.states.Event.TheVariants as event
+use Rattle.yard_steps.specs.declared.reports.Reason.TheVariants as reason
+use Rattle.yard_steps.specs.declared.reports.Ending.{Ending}
+use Rattle.yard_steps.specs.States.{moved, is_idle}
+use Rattle.yard_steps.specs.Model.{Domain, Entry, Yard, nobody, at, put, chained, current, gate_at, mapped}
+use Rattle.yard_steps.specs.Steps.{After, went, turned, after, fetched, put_datum, told, rest, behind, halted, hosted, arguments, entered, returned_to, gated, called, done, performed, stepped}
+use Rattle.yard_steps.specs.Whole.{Whole, placed}
+use Rattle.yard_steps.specs.Fence.{Stays, Crosses, Faultless, moment_of}
+use Rattle.yard_steps.proofs.Tables.{standing}
+use Rattle.yard_steps.proofs.Chains.{stopped_no_work, idle_no_work, active, rest_at, head_whole, turn_whole, leave_whole, told_whole, enter_whole}
+use Rattle.yard_steps.proofs.Puts.{put_length}
+use Rattle.yard_steps.proofs.Words.{own_word, call_word}
+use Rattle.yard_steps.proofs.Stays.{wrote}
 
 pub record Outcome (A : ℕ → ℕ → Bool) (y : Yard) (bs : List ℕ) (a : After) : Type 0 where
   pub whole : Whole a.yard

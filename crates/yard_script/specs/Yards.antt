@@ -2,8 +2,8 @@
 --   appends under        whether a yard stands after more code: none where one stands already, since its code does not change
 --   stands_after c under  whether a yard stands after the command c, given whether one stood before it; none where c may not come
 use Rattle.std.specs.Prelude.{Bool, true, false, cond, Some, None, Option}
-use Rattle.script.specs.declared.commands.Command.{Command}
-use Rattle.script.specs.declared.commands.Command.TheVariants as cmd
+use Rattle.yard_script.specs.declared.commands.Command.{Command}
+use Rattle.yard_script.specs.declared.commands.Command.TheVariants as cmd
 
 abbrev pub appends : Bool → Option Bool
 appends under = cond under None (Some false)

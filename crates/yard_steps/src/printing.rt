@@ -1,7 +1,7 @@
 // Reports as text: the reason, the count, the domain, the pc and the two numbers, with blanks between.
 
 ghost use Rattle.std.specs.Prelude.{Some};
-ghost use Rattle.steps.specs.Printed.{word, printed};
+ghost use Rattle.yard_steps.specs.Printed.{word, printed};
 
 use crate::reports::{Reason, Report};
 use std::fmt;

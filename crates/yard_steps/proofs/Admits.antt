@@ -9,13 +9,13 @@ use Rattle.code_check.specs.Laws.{Safe}
 use Rattle.code_check.proofs.Meanings.{gives}
 use Rattle.domain.specs.Confined.{Admitted, InCode, Pointing, Confined, started}
 use Rattle.domain.proofs.Starts.{starts}
-use Rattle.steps.specs.declared.states.State.TheVariants.{Idle}
-use Rattle.steps.specs.Model.{Domain, Yard, nobody, at}
-use Rattle.steps.specs.Calls.{near, fresh, admission, with_domain, settled, admitted}
-use Rattle.steps.specs.Whole.{Whole}
-use Rattle.steps.proofs.Below.{none_below}
-use Rattle.steps.proofs.Tables.{standing, Behind, Working, On}
-use Rattle.steps.proofs.Chains.{idle_no_work}
+use Rattle.yard_steps.specs.declared.states.State.TheVariants.{Idle}
+use Rattle.yard_steps.specs.Model.{Domain, Yard, nobody, at}
+use Rattle.yard_steps.specs.Calls.{near, fresh, admission, with_domain, settled, admitted}
+use Rattle.yard_steps.specs.Whole.{Whole}
+use Rattle.yard_steps.proofs.Below.{none_below}
+use Rattle.yard_steps.proofs.Tables.{standing, Behind, Working, On}
+use Rattle.yard_steps.proofs.Chains.{idle_no_work}
 
 -- what an Ok came by
 then_ok : {X Z : Type 0} (o : Result X (List ℕ)) (f : X → Result Z (List ℕ)) (z : Z) → and_then o f ≡ Ok z → (x : X) × (o ≡ Ok x) × (f x ≡ Ok z)

@@ -3,9 +3,9 @@
 --   printed r    the text of a report
 use Rattle.std.specs.Prelude.{ℕ, List, [], ◌∷◌, ◌++◌, codes}
 use Rattle.refusal.specs.Spelled.{spelled_on}
-use Rattle.steps.specs.declared.reports.Reason.{Reason}
-use Rattle.steps.specs.declared.reports.Reason.TheVariants.{Host, Stopped, Finished, Spent}
-use Rattle.steps.specs.declared.reports.Report.{Report}
+use Rattle.yard_steps.specs.declared.reports.Reason.{Reason}
+use Rattle.yard_steps.specs.declared.reports.Reason.TheVariants.{Host, Stopped, Finished, Spent}
+use Rattle.yard_steps.specs.declared.reports.Report.{Report}
 
 abbrev pub word : Reason → List ℕ
 word Host = codes "host"

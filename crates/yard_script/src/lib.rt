@@ -1,0 +1,12 @@
+// The script language: a command a line. It stands beside `script`, whose commands stay those that its program answers.
+#![tactic(auto)]
+
+mod code;
+mod commands;
+mod faults;
+mod reading;
+
+pub use code::words;
+pub use commands::Command;
+pub use faults::{Fault, Problem};
+pub use reading::{Line, read};

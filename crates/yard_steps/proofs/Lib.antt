@@ -1,0 +1,13 @@
+pub mod Below
+pub mod Puts
+pub mod Tables
+pub mod Chains
+pub mod Spares
+pub mod Words
+pub mod Stays
+pub mod Outcomes
+pub mod Kept
+pub mod Fenced
+pub mod Runs
+pub mod Admits
+pub mod Hosts
