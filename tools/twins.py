@@ -31,7 +31,7 @@ def functions(text):
         if not head:
             continue
         # The line that opens the body, or ends a function that has none.
-        opens = next(i for i in range(at, len(lines)) if re.search(r"(^ *|\) |> |[a-z0-9] )\{$|;$", lines[i]))
+        opens = next(i for i in range(at, len(lines)) if re.search(r"(^ *|\) |> |\] |[a-z0-9] )\{$|;$", lines[i]))
         if lines[opens].endswith(";"):
             continue
         end = lines.index(head.group(1) + "}", opens)

@@ -97,6 +97,7 @@ impl<'a> Performance<'a> {
     ) -> Result<Option<(u32, &'c [Command])>, AllocError>
         ensures is { IfOk result (λ o. spoken self.new.answers.items ++ following o self.new.session.memory self.new.session.policy code.new.items ≡ told self.old code.old.items false commands.now) }
     {
+        // With the index, since it tells which commands are left.
         for (i, command) in commands.iter().enumerate() {
             if let Some(size) = self.prepare(code, command)? {
                 return Ok(Some((size, &commands[i + 1..])));
