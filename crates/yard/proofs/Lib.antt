@@ -1,5 +1,4 @@
 pub mod Rows
-pub mod Links
 pub mod Words
 pub mod Turns
 pub mod Room
