@@ -19,12 +19,14 @@ pub enum Buffers {
 }
 
 impl Buffers {
+    // Zeros in one buffer.
     pub fn flat(heap: Global, size: u32) -> Result<Buffers, AllocError>
         ensures is { IfOk result (λ b. bytes_of b ≡ counted (zeros size)) }
     {
         Ok(Buffers::Flat(zeroed(heap, size)?))
     }
 
+    // Zeros in four lanes of these lengths.
     pub fn lanes(heap: Global, lengths: [u32; 4]) -> Result<Buffers, AllocError>
         ensures is { IfOk result (λ b. bytes_of b ≡ woven (zeros (slice_index lengths 0)) (zeros (slice_index lengths 1)) (zeros (slice_index lengths 2)) (zeros (slice_index lengths 3))) }
     {
@@ -37,6 +39,7 @@ impl Buffers {
         ))
     }
 
+    // The bytes from an address on. It takes a `&mut`, since a memory is lent its buffers to be written too; it writes nothing.
     pub fn peek(
         &mut self,
         heap: Global,

@@ -27,7 +27,7 @@ pub fn start(
     dedicate(registers, base, m, segment)
 }
 
-// Apart from `start`, whose laws are proved by hand: so a wrong register is refused here, in the code.
+// Apart from `start`, so that a wrong register is refused in the code, before the proofs of the laws.
 fn dedicate(registers: [u32; 32], base: u32, m: u32, segment: Segment) -> Result<[u32; 32], Refusal>
     ensures { told_in result ≡ started registers base m (row segment) }
 {

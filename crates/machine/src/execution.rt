@@ -77,7 +77,7 @@ pub fn execute(instruction: Instruction, registers: &[u32; 32], pc: u32) -> Effe
     effect_of(instruction, registers, pc)
 }
 
-// Apart from `execute`, which has a law: so a wrong effect is refused here, where it is made.
+// Apart from `execute`, so that a wrong effect is refused in the code, before the proof of the law.
 fn effect_of(instruction: Instruction, registers: &[u32; 32], pc: u32) -> Effect
     ensures { result ≡ executed instruction registers.now pc }
 {

@@ -41,7 +41,7 @@ impl Segment {
         self.covers(address)
     }
 
-    // Apart from `holds`, whose law is proved by hand: so a wrong test is refused here, in the code.
+    // Apart from `holds`, so that a wrong test is refused in the code, before the proof of the law.
     fn covers(self, address: u32) -> bool
         ensures { result ≡ inside (row self) address }
     {
