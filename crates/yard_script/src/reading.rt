@@ -180,11 +180,13 @@ impl<'a> Operands<'a> {
         array::try_from_fn(|_| self.number())
     }
 
-    // Numbers for the first places, as many as there are words, and no more than there are places.
+    // Numbers for the first places, as many as there are words, and no more than there are places. (`fuse`, since each question past
+    // the last word would read the blanks at the end of the line again.)
     fn first_numbers<const N: usize>(&mut self) -> Result<[u32; N], Problem>
         requires { N ≤ 32 }
     {
-        array::try_from_fn(|_| self.words.next().map_or(Ok(0), number))
+        let mut words = self.words.by_ref().fuse();
+        array::try_from_fn(|_| words.next().map_or(Ok(0), number))
     }
 
     fn number(&mut self) -> Result<u32, Problem> {
